@@ -1,0 +1,63 @@
+// RAM over bytes that a caller lent.
+ghost use mathlib.Core.Path.{_≡_};
+ghost use mathlib.Core.List.{[]};
+ghost use denote.Ref.{now, name};
+ghost use Rattle.store.specs.Kinds.{ram};
+ghost use Rattle.store.specs.Sounds.{ram-sound};
+use crate::fault::LineFault;
+use crate::store::MOST_LINES;
+use crate::store::Store;
+use refusal::Refusal;
+
+#[derive(Drop)]
+pub struct Ram<'a> {
+    bytes: &'a mut [u8],
+}
+
+impl<'a> Ram<'a> {
+    // The store holds the very loan, so its caller knows the bytes again once it ends.
+    pub fn new(bytes: &'a mut [u8]) -> Self
+        ensures { λ r. ⌜ r .bytes ≡ bytes .entry ⌝ }
+    {
+        Ram { bytes }
+    }
+
+    // RAM of no lines, to stand in for one that is moved out of its place for a while.
+    pub fn none() -> Self
+        ensures { λ r. ⌜ now (r .bytes) ≡ [] ⌝ }
+    {
+        Ram { bytes: &mut [] }
+    }
+}
+
+pub impl<'a> Store for Ram<'a> as RamStore {
+    ghost meaning = { λ s. ram (name (s .bytes)) (now (s .bytes)) };
+
+    ghost sound = { λ s. ram-sound (name (s .bytes)) (now (s .bytes)) };
+
+    fn size(&self) -> u32 {
+        (self.bytes.len() / 128).min(MOST_LINES as usize) as u32
+    }
+
+    fn writable(&self, line: u32) -> bool {
+        line < self.size()
+    }
+
+    fn read(&self, line: u32, out: &mut [u8; 128]) -> Result<(), LineFault> {
+        if line >= self.size() {
+            return Err(LineFault { cause: Refusal::MissingLine, line });
+        }
+        let at = line as usize * 128;
+        out.copy_from_slice(&self.bytes[at..at + 128]);
+        Ok(())
+    }
+
+    fn write(&mut self, line: u32, bytes: &[u8; 128]) -> Result<(), LineFault> {
+        if line >= self.size() {
+            return Err(LineFault { cause: Refusal::MissingLine, line });
+        }
+        let at = line as usize * 128;
+        self.bytes[at..at + 128].copy_from_slice(bytes);
+        Ok(())
+    }
+}

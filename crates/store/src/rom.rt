@@ -1,0 +1,54 @@
+// ROM over bytes held for reading.
+ghost use mathlib.Core.Path.{_≡_};
+ghost use denote.Ref.{now};
+ghost use Rattle.store.specs.Kinds.{rom};
+ghost use Rattle.store.specs.Sounds.{rom-sound};
+use crate::fault::LineFault;
+use crate::store::MOST_LINES;
+use crate::store::Store;
+use refusal::Refusal;
+
+#[derive(Drop)]
+pub struct Rom<'a> {
+    bytes: &'a [u8],
+}
+
+impl<'a> Rom<'a> {
+    pub fn new(bytes: &'a [u8]) -> Self
+        ensures { λ r. ⌜ now (r .bytes) ≡ now (bytes .entry) ⌝ }
+    {
+        Rom { bytes }
+    }
+}
+
+pub impl<'a> Store for Rom<'a> as RomStore {
+    ghost meaning = { λ s. rom (now (s .bytes)) };
+
+    ghost sound = { λ s. rom-sound (now (s .bytes)) };
+
+    fn size(&self) -> u32 {
+        self.bytes.len().div_ceil(128).min(MOST_LINES as usize) as u32
+    }
+
+    fn writable(&self, _line: u32) -> bool {
+        false
+    }
+
+    fn read(&self, line: u32, out: &mut [u8; 128]) -> Result<(), LineFault> {
+        if line >= self.size() {
+            return Err(LineFault { cause: Refusal::MissingLine, line });
+        }
+        let at = line as usize * 128;
+        let there = (self.bytes.len() - at).min(128);
+        out[0..there].copy_from_slice(&self.bytes[at..at + there]);
+        out[there..].fill(0);
+        Ok(())
+    }
+
+    fn write(&mut self, line: u32, _bytes: &[u8; 128]) -> Result<(), LineFault> {
+        if line >= self.size() {
+            return Err(LineFault { cause: Refusal::MissingLine, line });
+        }
+        Err(LineFault { cause: Refusal::FixedLine, line })
+    }
+}
