@@ -22,3 +22,5 @@ pub use split::Split;
 pub use split::SplitStore;
 pub use store::MOST_LINES;
 pub use store::Store;
+pub use store::admit;
+pub use store::refuse;

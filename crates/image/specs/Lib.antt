@@ -1,0 +1,5 @@
+pub mod Causes
+pub mod Format
+pub mod Placing
+pub mod Records
+pub mod Loading
