@@ -1,3 +1,4 @@
+pub mod Again
 pub mod Checking
 pub mod Fronts
 pub mod Located

@@ -6,6 +6,7 @@ use lib.ListN.{length}
 use Rattle.std.specs.declared.result.Result.{Result}
 use Rattle.std.specs.declared.result.Result.the-variants.{Ok, Err}
 use Rattle.store.specs.declared.fault.LineFault.{LineFault}
+use Rattle.store.specs.Kinds.{fuse, ram}
 use Rattle.store.specs.Meaning.{Meaning}
 use Rattle.store.specs.Rules.{refused}
 use Rattle.image.specs.declared.fault.Cause.{Cause}
@@ -58,3 +59,8 @@ Puts m image (Err f) after = ⊥
 abbrev pub Loads : Meaning → List ℕ → Result (Unit {0}) Fault → Meaning → Type 0
 Loads m image (Ok _) after = (ps : List Placed) × Good m image ps × (after ≡ put-all m ps)
 Loads m image (Err f) after = Faulty m image (f .at) (f .cause) × (after ≡ m)
+
+-- Loading into bytes that a caller lends as RAM, beneath a fuse, whatever name the loan has. The bytes are then those of the store's meaning: its lines, and the bytes past the last whole line as they were. A refused image leaves them as they were.
+abbrev pub Loads-bytes : ℕ → List ℕ → List ℕ → Result (Unit {0}) Fault → List ℕ → Type 0
+Loads-bytes below before image (Ok x) after = (name : ℕ) × Loads (fuse below (ram name before)) image (Ok x) (fuse below (ram name after))
+Loads-bytes below before image (Err f) after = (name : ℕ) × Faulty (fuse below (ram name before)) image (f .at) (f .cause) × (after ≡ before)

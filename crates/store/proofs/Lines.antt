@@ -1,5 +1,5 @@
 -- Lines within bytes: what a write over one line leaves of the others.
-use Prim.Native.Nat.{ℕ, _*_, _+_, _-_, _/_, _<_, _≤_, min}
+use Prim.Native.Nat.{ℕ, zero, suc, _*_, _+_, _-_, _/_, _<_, _≤_, min}
 use mathlib.Core.Path.{_≡_, refl, sym, ap, _∙_}
 use mathlib.Core.Bool.{Bool, true, false, cond}
 use mathlib.Core.List.{List, [], _++_}
@@ -10,7 +10,8 @@ use lib.ListN.{length, take, drop, replicate, length-take, length-drop, length-a
 use borrow.Rule.Slice.PartMut.{putMid, midOf, postOf}
 use borrow.Author.Needs.{needs}
 use Rattle.std.proofs.shelf.Tests.{cases-lt, cases-order, eq-eqb, ne-eqb, cond-true, cond-false}
-use Rattle.std.proofs.shelf.Lists.{drop-take, take-at, drop-at, take-all, drop-all, append-nil}
+use lib.Seq.{take-add}
+use Rattle.std.proofs.shelf.Lists.{take-append-drop, drop-take, take-at, drop-at, take-all, drop-all, append-nil}
 use Rattle.std.proofs.shelf.Parts.{drop-putMid, take-putMid-below, between-putMid, between-is, overwrites}
 use Rattle.store.specs.Meaning.{Meaning, Kept, with-line, loan}
 use Rattle.store.specs.Kinds.{ram, whole-lines, line-of, filled, high-line}
@@ -88,3 +89,34 @@ filled-out part out zs t e h o z =
     let zeros : zs ≡ replicate (128 - length part) 0 = z ∙ ap (λ k. replicate k 0) mid in
     ap (λ l. l ++ (zs ++ drop (128 - t) (drop t (part ++ rest)))) (take-at part rest t e)
     ∙ ap (λ l. part ++ l) (ap (λ l. zs ++ l) none ∙ append-nil zs ∙ zeros)
+
+-- The lines of RAM and what is kept past them are all of its bytes.
+module _ (a b : List ℕ) (lines : (n : ℕ) → line-of a n ≡ line-of b n) where
+  fronts : (n : ℕ) → take (128 * n) a ≡ take (128 * n) b
+  fronts zero = refl
+  fronts (suc n) =
+      let e : 128 * suc n ≡ 128 * n + 128 = omega arith in
+      ap (λ k. take k a) e
+      ∙ take-add (128 * n) 128 a
+      ∙ ap (λ l. l ++ line-of a n) (fronts n)
+      ∙ ap (λ l. take (128 * n) b ++ l) (lines n)
+      ∙ sym (take-add (128 * n) 128 b)
+      ∙ sym (ap (λ k. take k b) e)
+
+loan-parts : (γ δ : ℕ) (s t : List ℕ) → loan γ s ≡ loan δ t → (γ ≡ δ) × (s ≡ t)
+loan-parts γ δ s t e = (cc, cc)
+
+pub same-name : (γ δ : ℕ) (a b : List ℕ) → ram γ a .kept ≡ ram δ b .kept → γ ≡ δ
+same-name γ δ a b e = loan-parts γ δ (drop (128 * whole-lines a) a) (drop (128 * whole-lines b) b) e .0
+
+-- What a store over them says of two lots of bytes: as many lines, the same lines, and the same kept.
+pub same-bytes :
+    (γ δ : ℕ) (a b : List ℕ) → whole-lines a ≡ whole-lines b → ((n : ℕ) → line-of a n ≡ line-of b n)
+    → ram γ a .kept ≡ ram δ b .kept → a ≡ b
+same-bytes γ δ a b w lines kept =
+    let tails = loan-parts γ δ (drop (128 * whole-lines a) a) (drop (128 * whole-lines b) b) kept .1 in
+    sym (take-append-drop (128 * whole-lines a) a)
+    ∙ ap (λ l. take (128 * whole-lines a) a ++ l) tails
+    ∙ ap (λ l. l ++ drop (128 * whole-lines b) b) (fronts a b lines (whole-lines a))
+    ∙ ap (λ n. take (128 * n) b ++ drop (128 * whole-lines b) b) w
+    ∙ take-append-drop (128 * whole-lines b) b

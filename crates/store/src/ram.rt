@@ -22,11 +22,12 @@ impl<'a> Ram<'a> {
         Ram { bytes }
     }
 
-    // RAM of no lines, to stand in for one that is moved out of its place for a while.
-    pub fn none() -> Self
-        ensures { λ r. ⌜ now (r .bytes) ≡ [] ⌝ }
+    // Moves the RAM out of its place, to be layered, and leaves RAM of no lines there. Put back, it
+    // holds the loan again, so the lender knows its bytes through the layers too.
+    pub fn take(&mut self) -> Ram<'a>
+        ensures { λ r. ⌜ (r ≡ now (self .entry)) × (now (now (self .exit) .bytes) ≡ []) ⌝ }
     {
-        Ram { bytes: &mut [] }
+        std::mem::replace(self, Ram { bytes: &mut [] })
     }
 }
 
