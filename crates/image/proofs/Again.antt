@@ -53,17 +53,6 @@ module _ (below other γ δ : ℕ) (before after : List ℕ) where
       (w .0, w .1, same-fuse (put-all m (w .0)) (put-size m (w .0)) (put-canwrite m (w .0)) (w .2))
   fuse-again image (Err f) w = (w .0, same-fuse (fuse below (ram γ before)) refl (λ n. refl) (w .1))
 
--- The RAM that went under the fuse, and the one that came back.
-pub fuse-off :
-    (below laid other : ℕ) (went under came back : Ram) (image : List ℕ) (r : Result (Unit {0}) Fault) → laid ≡ below → under ≡ went
-    → back ≡ came
-    → Loads (fuse laid (ram (name (under .bytes)) (now (under .bytes)))) image r (fuse other (ram (name (came .bytes)) (now (came .bytes))))
-    → Loads (fuse below (ram (name (went .bytes)) (now (went .bytes)))) image r (fuse below (ram (name (back .bytes)) (now (back .bytes))))
-fuse-off below laid other went under came back image r p q s w =
-    let v = subst (λ x. Loads (fuse x (ram (name (under .bytes)) (now (under .bytes)))) image r (fuse other (ram (name (came .bytes)) (now (came .bytes))))) p w in
-    let u = subst (λ x. Loads (fuse below (ram (name (x .bytes)) (now (x .bytes)))) image r (fuse other (ram (name (came .bytes)) (now (came .bytes))))) q v in
-    rw s (fuse-again below other (name (went .bytes)) (name (came .bytes)) (now (went .bytes)) (now (came .bytes)) image r u)
-
 -- A fuse hides nothing of the RAM's lines.
 under : (below γ : ℕ) (a b : List ℕ) → fuse below (ram γ a) ≡ fuse below (ram γ b) → a ≡ b
 under below γ a b e = same-bytes γ γ a b (ap (λ m. m .size) e) (λ n. ap (λ m. m .line n) e) (ap (λ m. m .kept) e)
@@ -72,11 +61,17 @@ loads-bytes : (below γ : ℕ) (before image : List ℕ) (r : Result (Unit {0}) 
 loads-bytes below γ before image (Ok x) after w = (γ, w)
 loads-bytes below γ before image (Err f) after w = (γ, w .0, under below γ after before (w .1))
 
--- The lender's bytes, known to be the RAM's last where the loan kept its name.
-pub lent-again :
-    (below γ δ : ℕ) (before image : List ℕ) (r : Result (Unit {0}) Fault) (after exit : List ℕ) → (γ ≡ δ → exit ≡ after)
-    → Loads (fuse below (ram γ before)) image r (fuse below (ram δ after)) → Loads-bytes below before image r exit
-lent-again below γ δ before image r after exit e w =
-    let n : γ ≡ δ = same-name γ δ before after (load-keeps (fuse below (ram γ before)) image r (fuse below (ram δ after)) w) in
-    let v = subst (λ x. Loads (fuse below (ram γ before)) image r (fuse below (ram x after))) (sym n) w in
-    rw (e n) (loads-bytes below γ before image r after v)
+-- The RAM that came back from under the fuse holds the loan that went under, and the bytes are those of the loaded store.
+pub fuse-off :
+    (below other : ℕ) (went under came : Ram) (image : List ℕ) (r : Result (Unit {0}) Fault) → under ≡ went
+    → Loads (fuse below (ram (name (under .bytes)) (now (under .bytes)))) image r (fuse other (ram (name (came .bytes)) (now (came .bytes))))
+    → (name (came .bytes) ≡ name (went .bytes)) × Loads-bytes below (now (went .bytes)) image r (now (came .bytes))
+fuse-off below other went under came image r q w =
+    let γ = name (went .bytes) in
+    let δ = name (came .bytes) in
+    let before = now (went .bytes) in
+    let after = now (came .bytes) in
+    let u = subst (λ x. Loads (fuse below (ram (name (x .bytes)) (now (x .bytes)))) image r (fuse other (ram δ after))) q w in
+    let n : γ ≡ δ = same-name γ δ before after (load-keeps (fuse below (ram γ before)) image r (fuse other (ram δ after)) u) in
+    let same = fuse-again below other γ δ before after image r u in
+    (sym n, loads-bytes below γ before image r after (subst (λ x. Loads (fuse below (ram γ before)) image r (fuse below (ram x after))) (sym n) same))

@@ -31,13 +31,14 @@ module _ (m : Meaning) (image : List ℕ) (at : ℕ) (u : Unchecked m image at) 
     pub unchecked-more : Fits-in m a b → Unchecked m image (at + taken b)
     unchecked-more h =
         let step = image-at-place at (drop at image) a b (u .left) f (u .rest) in
-        record
-          { all = u .all
-          ; left = step .0
-          ; whole = u .whole
-          ; rest = subst (λ l. Image (at + taken b) l (step .0)) (drop-drop (taken b) at image) (step .2)
-          ; fit = λ k. u .fit (subst (All-fit m) (sym (step .1)) (h, k))
-          ; misfit = λ x n k. u .misfit x n (subst (λ l. First-misfit m l x n) (sym (step .1)) (next h k)) }
+        record {
+          all = u .all;
+          left = step .0;
+          whole = u .whole;
+          rest = subst (λ l. Image (at + taken b) l (step .0)) (drop-drop (taken b) at image) (step .2);
+          fit = λ k. u .fit (subst (All-fit m) (sym (step .1)) (h, k));
+          misfit = λ x n k. u .misfit x n (subst (λ l. First-misfit m l x n) (sym (step .1)) (next h k));
+        }
 
     pub misfit-here : (n : ℕ) → Misfits m a b n → (ps : List Placed) × Image 0 image ps × First-misfit m ps at n
     misfit-here n h =

@@ -44,14 +44,14 @@ module _ (bs : List ℕ) where
       let whole = places (four bs 6) (take (body-length bs - 4) (drop 10 bs)) in
       ⊎-elim (λ t. let n : bad Cut ≡ places a b = sym (cond-true cut (bad Cut) whole t) ∙ e in let z : _≡_ {A = ℕ} 0 1 = cc in omega arith)
       (λ t.
-        let w : whole ≡ places a b = sym (cond-false cut (bad Cut) whole t) ∙ e in
-        let k : take (body-length bs - 4) (drop 10 bs) ≡ b = cc in
-        let parts = or-parts (ltb (body-length bs) 4) (ltb (length bs) (6 + body-length bs)) t in
-        let p = ltb-false (body-length bs) 4 (parts .0) in
-        let q = ltb-false (length bs) (6 + body-length bs) (parts .1) in
-        let l : length (take (body-length bs - 4) (drop 10 bs)) ≡ body-length bs - 4 = simp (length-take, length-drop) (omega arith) in
-        let m : length b ≡ body-length bs - 4 = rw (← k) l in
-        omega arith)
+      let w : whole ≡ places a b = sym (cond-false cut (bad Cut) whole t) ∙ e in
+      let k : take (body-length bs - 4) (drop 10 bs) ≡ b = cc in
+      let parts = or-parts (ltb (body-length bs) 4) (ltb (length bs) (6 + body-length bs)) t in
+      let p = ltb-false (body-length bs) 4 (parts .0) in
+      let q = ltb-false (length bs) (6 + body-length bs) (parts .1) in
+      let l : length (take (body-length bs - 4) (drop 10 bs)) ≡ body-length bs - 4 = simp (length-take, length-drop) (omega arith) in
+      let m : length b ≡ body-length bs - 4 = rw (← k) l in
+      omega arith)
       (cases-bool cut)
 
   -- A record that places bytes lies within the bytes that it stands in.
@@ -59,17 +59,17 @@ module _ (bs : List ℕ) where
   places-within a b e =
       ⊎-elim (λ h. let n : bad Cut ≡ places a b = sym (front-cut h) ∙ e in let z : _≡_ {A = ℕ} 0 1 = cc in omega arith)
       (λ h.
-        ⊎-elim (λ k. front-place-within a b (sym (front-is-place h k) ∙ e))
-        (λ k.
-          ⊎-elim
-          (λ l.
-            ⊎-elim
-            (λ z. let n : ends ≡ places a b = sym (front-ends h l z) ∙ e in let y : _≡_ {A = ℕ} 0 1 = cc in omega arith)
-            (λ z. let n : bad Kind ≡ places a b = sym (front-full-end h l z) ∙ e in let y : _≡_ {A = ℕ} 0 1 = cc in omega arith)
-            (cases-eq (body-length bs) 0))
-          (λ l. let n : bad Kind ≡ places a b = sym (front-unknown h k l) ∙ e in let y : _≡_ {A = ℕ} 0 1 = cc in omega arith)
-          (cases-eq (kind bs) 2))
-        (cases-eq (kind bs) 1))
+      ⊎-elim (λ k. front-place-within a b (sym (front-is-place h k) ∙ e))
+      (λ k.
+      ⊎-elim
+      (λ l.
+      ⊎-elim
+      (λ z. let n : ends ≡ places a b = sym (front-ends h l z) ∙ e in let y : _≡_ {A = ℕ} 0 1 = cc in omega arith)
+      (λ z. let n : bad Kind ≡ places a b = sym (front-full-end h l z) ∙ e in let y : _≡_ {A = ℕ} 0 1 = cc in omega arith)
+      (cases-eq (body-length bs) 0))
+      (λ l. let n : bad Kind ≡ places a b = sym (front-unknown h k l) ∙ e in let y : _≡_ {A = ℕ} 0 1 = cc in omega arith)
+      (cases-eq (kind bs) 2))
+      (cases-eq (kind bs) 1))
       (cases-lt (length bs) 6)
 
   -- An end lies within the bytes that it stands in.

@@ -27,16 +27,16 @@ module _ (m : Meaning) (a : ℕ) (b : List ℕ) (s : Sound m) (fits : Fits-in m 
   none-changes e x old =
       spliced-none x old a b
       (λ i h.
-        ⊎-elim (λ l. byte-before (x + i) a b _ l) (λ l. byte-behind (x + i) a b _ (omega arith)) (cases-lt (x + i) a))
+      ⊎-elim (λ l. byte-before (x + i) a b _ l) (λ l. byte-behind (x + i) a b _ (omega arith)) (cases-lt (x + i) a))
 
   -- A line before the first byte's keeps its bytes.
   line-before : (k : ℕ) → k < a / 128 → spliced (128 * k) (m .line k) a b ≡ m .line k
   line-before k h =
       ⊎-elim (λ e. none-changes e (128 * k) (m .line k))
       (λ e.
-        let there : line-at a 0 < m .size = s .within (line-at a 0) (fits 0 (omega arith)) in
-        let long : length (m .line k) ≡ 128 = s .whole k (omega arith) in
-        spliced-none (128 * k) (m .line k) a b (λ i l. byte-before (128 * k + i) a b _ (omega arith)))
+      let there : line-at a 0 < m .size = s .within (line-at a 0) (fits 0 (omega arith)) in
+      let long : length (m .line k) ≡ 128 = s .whole k (omega arith) in
+      spliced-none (128 * k) (m .line k) a b (λ i l. byte-before (128 * k + i) a b _ (omega arith)))
       (cases-eq (length b) 0)
 
   -- So does one behind the last byte's.
@@ -50,7 +50,7 @@ module _ (m : Meaning) (a : ℕ) (b : List ℕ) (s : Sound m) (fits : Fits-in m 
   put-start =
       same-meaning (put-below m a b (a / 128)) m refl
       (λ k.
-        ⊎-elim (λ h. rw (lt-ltb k (a / 128) h) (line-before k h)) (λ h. rw (le-ltb k (a / 128) h) refl) (cases-lt k (a / 128)))
+      ⊎-elim (λ h. rw (lt-ltb k (a / 128) h) (line-before k h)) (λ h. rw (le-ltb k (a / 128) h) refl) (cases-lt k (a / 128)))
       (λ k. refl) refl
 
   pub put-end : (n : ℕ) → past-line a b ≤ n → put-below m a b n ≡ put m a b
@@ -77,7 +77,7 @@ module _ (m : Meaning) (a : ℕ) (b : List ℕ) (n : ℕ) where
   line-more k =
       ⊎-elim (λ h. rw (ne-eqb k n (omega arith)) (rw (lt-ltb k n h) (rw (lt-ltb k (n + 1) (omega arith)) refl)))
       (⊎-elim (λ e. rw e (rw (eq-eqb n n refl) (rw (lt-ltb n (n + 1) (omega arith)) (ap (λ l. spliced (128 * n) l a b) still))))
-        (λ h. rw (ne-eqb k n (omega arith)) (rw (le-ltb k n (omega arith)) (rw (le-ltb k (n + 1) (omega arith)) refl))))
+      (λ h. rw (ne-eqb k n (omega arith)) (rw (le-ltb k n (omega arith)) (rw (le-ltb k (n + 1) (omega arith)) refl))))
       (cases-order′ k n)
 
   pub put-more : with-line (put-below m a b n) n (spliced (128 * n) (put-below m a b n .line n) a b) ≡ put-below m a b (n + 1)

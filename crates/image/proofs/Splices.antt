@@ -46,8 +46,8 @@ pub spliced-apart : (x : ℕ) (old : List ℕ) (a : ℕ) (b : List ℕ) → min 
 spliced-apart x old a b h =
     spliced-none x old a b
     (λ i k.
-      ⊎-elim (λ l. byte-before (x + i) a b (getD old i 0) l)
-      (λ l. byte-behind (x + i) a b (getD old i 0) (omega arith)) (cases-lt (x + i) a))
+    ⊎-elim (λ l. byte-before (x + i) a b (getD old i 0) l)
+    (λ l. byte-behind (x + i) a b (getD old i 0) (omega arith)) (cases-lt (x + i) a))
 
 -- Where they meet the row, the placed bytes from p on and of the row w bytes from place q on are those that meet.
 module _
@@ -96,12 +96,12 @@ module _
   over-at i h =
       ⊎-elim (λ l. over-front i l ∙ sym (byte-before (x + i) a b (getD old i 0) (omega arith)))
       (λ l.
-        ⊎-elim
-        (λ k.
-          let e : p + (i - q) ≡ x + i - a = omega arith in
-          over-mid i l k ∙ ap (λ n. getD b n 0) e ∙ sym (byte-within (x + i) a b (getD old i 0) (omega arith) (omega arith)))
-        (λ k. over-back i k ∙ sym (byte-behind (x + i) a b (getD old i 0) (omega arith)))
-        (cases-lt i (q + w)))
+      ⊎-elim
+      (λ k.
+      let e : p + (i - q) ≡ x + i - a = omega arith in
+      over-mid i l k ∙ ap (λ n. getD b n 0) e ∙ sym (byte-within (x + i) a b (getD old i 0) (omega arith) (omega arith)))
+      (λ k. over-back i k ∙ sym (byte-behind (x + i) a b (getD old i 0) (omega arith)))
+      (cases-lt i (q + w)))
       (cases-lt i q)
 
   pub spliced-meets : putMid q w old new ≡ spliced x old a b

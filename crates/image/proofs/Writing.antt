@@ -41,13 +41,14 @@ module _ (was : Meaning) (image : List ℕ) (at : ℕ) (is : Meaning) (u : Unwri
 
     pub unwritten-more : (next : Meaning) → next ≡ put is a b → Unwritten was image (at + taken b) next
     unwritten-more next e =
-        record
-          { all = u .all
-          ; left = step .0
-          ; good = u .good
-          ; rest = subst (λ l. Image (at + taken b) l (step .0)) (drop-drop (taken b) at image) (step .2)
-          ; fit = subst (λ m. All-fit m (step .0)) (sym e) (fit-put is a b (step .0) (fits .1))
-          ; same = ap (λ m. put-all m (step .0)) e ∙ sym (ap (put-all is) (step .1)) ∙ u .same }
+        record {
+          all = u .all;
+          left = step .0;
+          good = u .good;
+          rest = subst (λ l. Image (at + taken b) l (step .0)) (drop-drop (taken b) at image) (step .2);
+          fit = subst (λ m. All-fit m (step .0)) (sym e) (fit-put is a b (step .0) (fits .1));
+          same = ap (λ m. put-all m (step .0)) e ∙ sym (ap (put-all is) (step .1)) ∙ u .same;
+        }
 
   pub written-all :
       ((a : ℕ) (b : List ℕ) → front (drop at image) ≡ places a b → ⊥) → (ps : List Placed) × Good was image ps × (is ≡ put-all was ps)

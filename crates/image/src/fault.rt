@@ -29,7 +29,7 @@ pub impl From<LineFault> for Cause as CauseFromLine {
 }
 
 // Adds the record's byte place to why it is refused.
-pub fn locate<T>(result: Result<T, Cause>, at: usize) -> Result<T, Fault>
+pub(crate) fn locate<T>(result: Result<T, Cause>, at: usize) -> Result<T, Fault>
     ensures { λ r. ⌜ r ≡ located result at ⌝ }
 {
     match result {

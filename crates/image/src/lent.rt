@@ -1,7 +1,7 @@
 // Loading into bytes that a caller lends as RAM, beneath a fuse.
+ghost use mathlib.Core.Path.{_≡_};
 ghost use denote.Ref.{name, now};
-ghost use Rattle.store.specs.Kinds.{fuse, ram};
-ghost use Rattle.image.specs.Loading.{Loads, Loads-bytes};
+ghost use Rattle.image.specs.Loading.{Loads-bytes};
 use crate::fault::Fault;
 use crate::loading::load;
 use store::Fuse;
@@ -9,13 +9,18 @@ use store::FuseStore;
 use store::Ram;
 use store::RamStore;
 
-// Lays a fuse over the RAM, loads the image through it, and takes the fuse off again.
+// Lays a fuse over the RAM, loads the image through it, and takes the fuse off again. The RAM holds
+// the loan that it held.
 fn load_fused(memory: &mut Ram, below: u32, image: &[u8]) -> Result<(), Fault>
-    ensures { λ r. ⌜ Loads (fuse below (ram (name (now (memory .entry) .bytes)) (now (now (memory .entry) .bytes)))) (now (image .entry)) r (fuse below (ram (name (now (memory .exit) .bytes)) (now (now (memory .exit) .bytes)))) ⌝ }
+    ensures { λ r. ⌜ (name (now (memory .exit) .bytes) ≡ name (now (memory .entry) .bytes)) × Loads-bytes below (now (now (memory .entry) .bytes)) (now (image .entry)) r (now (now (memory .exit) .bytes)) ⌝ }
 {
-    let mut fused = Fuse::new(below, memory.take());
+    let mut fused = Fuse {
+        below,
+        under: memory.take(),
+    };
     let result = load(&mut fused, image);
-    *memory = fused.into_inner();
+    let Fuse { below: _, under } = fused;
+    *memory = under;
     result
 }
 

@@ -18,7 +18,7 @@ use store::Store;
 use store::admit;
 
 // The line behind the last on which a byte of the place falls.
-pub fn past_line(place: Place<'_>) -> u32
+pub(crate) fn past_line(place: Place<'_>) -> u32
     requires { ⌜ length (now (place .bytes)) < 2 ^ 32 ⌝ }
     ensures { λ r. ⌜ r ≡ past-line (place .entry .address) (now (place .entry .bytes)) ⌝ }
 {
@@ -39,7 +39,7 @@ fn check_place<S: Store>(store: &S, place: Place<'_>) -> Result<(), Cause>
 }
 
 // Checks each place of an image whose records are whole.
-pub fn check_places<S: Store>(store: &S, image: &[u8]) -> Result<(), Fault>
+pub(crate) fn check_places<S: Store>(store: &S, image: &[u8]) -> Result<(), Fault>
     requires { ⌜ ((ps : List Placed) × Image 0 (now image) ps) ⌝ }
     ensures { λ r. ⌜ Places-check (S·Store .meaning (now (store .entry))) (now (image .entry)) r ⌝ }
 {

@@ -57,7 +57,7 @@ fn put_place<S: Store>(store: &mut S, place: Place<'_>) -> Result<(), Cause>
 }
 
 // Writes every place of a good image, in order.
-pub fn put_places<S: Store>(store: &mut S, image: &[u8]) -> Result<(), Fault>
+pub(crate) fn put_places<S: Store>(store: &mut S, image: &[u8]) -> Result<(), Fault>
     requires { ⌜ ((ps : List Placed) × Good (S·Store .meaning (now store)) (now image) ps) ⌝ }
     ensures { λ r. ⌜ Puts (S·Store .meaning (now (store .entry))) (now (image .entry)) r (S·Store .meaning (now (store .exit))) ⌝ }
 {

@@ -8,22 +8,23 @@ use crate::fault::Cause;
 use refusal::Refusal;
 
 #[derive(Clone, Copy)]
-pub struct Place<'a> {
-    pub address: u32,
-    pub bytes: &'a [u8],
+pub(crate) struct Place<'a> {
+    pub(crate) address: u32,
+    pub(crate) bytes: &'a [u8],
 }
 
 #[derive(Clone, Copy)]
-pub enum Record<'a> {
+pub(crate) enum Record<'a> {
     Place(Place<'a>),
     End,
 }
 
-pub const HEADER: usize = 6;
-pub const ADDRESS: usize = 4;
+pub(crate) const HEADER: usize = 6;
+
+pub(crate) const ADDRESS: usize = 4;
 
 // The record at the front of the bytes: its header is checked, then its kind, then its body.
-pub fn first_record(bytes: &[u8]) -> Result<Record<'_>, Cause>
+pub(crate) fn first_record(bytes: &[u8]) -> Result<Record<'_>, Cause>
     ensures { λ r. ⌜ Shows (front (now (bytes .entry))) r ⌝ }
 {
     if bytes.len() < HEADER {

@@ -14,7 +14,7 @@ use crate::record::first_record;
 use refusal::Refusal;
 
 // The record at byte place `at`.
-pub fn record_at(image: &[u8], at: usize) -> Result<Record<'_>, Fault>
+pub(crate) fn record_at(image: &[u8], at: usize) -> Result<Record<'_>, Fault>
     requires { ⌜ at ≤ length (now image) ⌝ }
     ensures { λ r. ⌜ Shows-at at (front (drop at (now (image .entry)))) r ⌝ }
 {
@@ -22,7 +22,7 @@ pub fn record_at(image: &[u8], at: usize) -> Result<Record<'_>, Fault>
 }
 
 // The place whose record is at byte place `at`, where one is there.
-pub fn place_at(image: &[u8], at: usize) -> Option<Place<'_>>
+pub(crate) fn place_at(image: &[u8], at: usize) -> Option<Place<'_>>
     requires { ⌜ at ≤ length (now image) ⌝ }
     ensures { λ r. ⌜ Stands-at (now (image .entry)) at r ⌝ }
 {
@@ -42,12 +42,15 @@ fn record_after(image: &[u8], at: usize) -> Result<Option<usize>, Fault>
 {
     match record_at(image, at)? {
         Record::Place(place) => Ok(Some(at + (HEADER + ADDRESS + place.bytes.len()))),
-        Record::End if image.len() - at > HEADER => Err(Fault { cause: Cause::Form(Refusal::Cut), at: at + HEADER }),
+        Record::End if image.len() - at > HEADER => Err(Fault {
+            cause: Cause::Form(Refusal::Cut),
+            at: at + HEADER,
+        }),
         Record::End => Ok(None),
     }
 }
 
-pub fn check_records(image: &[u8]) -> Result<(), Fault>
+pub(crate) fn check_records(image: &[u8]) -> Result<(), Fault>
     ensures { λ r. ⌜ Checks (now (image .entry)) r ⌝ }
 {
     let mut at = 0;

@@ -14,7 +14,7 @@ use lib.Seq.{take-add}
 use Rattle.std.proofs.shelf.Lists.{take-append-drop, drop-take, take-at, drop-at, take-all, drop-all, append-nil}
 use Rattle.std.proofs.shelf.Parts.{drop-putMid, take-putMid-below, between-putMid, between-is, overwrites}
 use Rattle.store.specs.Meaning.{Meaning, Kept, with-line, loan}
-use Rattle.store.specs.Kinds.{ram, whole-lines, line-of, filled, high-line}
+use Rattle.store.specs.Kinds.{ram, whole-lines, line-of, filled}
 
 -- Stores of one size, with the same lines, of which the same can be written, and that keep the same, are the same.
 pub same-meaning :
@@ -62,33 +62,28 @@ module _
       same-meaning (ram name (putMid a w bytes b)) (with-line (ram name bytes) n b) s over-lines (λ k. ap (ltb k) s)
       (ap (loan name) (ap (λ l. drop (128 * l) (putMid a w bytes b)) s ∙ over-tail))
 
--- A record filled with 0xFF is a line of the open bus.
-pub high-line-is : (n : ℕ) → n ≡ 128 → replicate n 255 ≡ high-line
-unfolding high-line
-high-line-is n e = ap (λ k. replicate k 255) e
-
 -- What is there of some bytes, cut at a line.
 pub cut-line : (xs : List ℕ) (t : ℕ) → t ≡ min (length xs) 128 → take t xs ≡ take 128 xs
 cut-line xs t e =
     ⊎-elim (λ h. let p : length xs ≤ t = omega arith in let q : length xs ≤ 128 = omega arith in take-all t xs p ∙ sym (take-all 128 xs q))
     (λ h. let p : t ≡ 128 = omega arith in ap (λ k. take k xs) p) (cases-lt (length xs) 128)
 
--- A record that begins with `part` and has zeros written over the rest is `part` filled up to a line.
+-- A record that begins with `part` and has one byte written over the rest is `part` filled up with it.
 pub filled-out :
-    (part out zs : List ℕ) (t : ℕ) → length part ≡ t → t ≤ 128 → length out ≡ 128
-    → zs ≡ replicate (length (midOf t (128 - t) (part ++ postOf 0 (t - 0) out))) 0
-    → putMid t (128 - t) (part ++ postOf 0 (t - 0) out) zs ≡ filled part
+    (part out zs : List ℕ) (more t : ℕ) → length part ≡ t → t ≤ 128 → length out ≡ 128
+    → zs ≡ replicate (length (midOf t (128 - t) (part ++ postOf 0 (t - 0) out))) more
+    → putMid t (128 - t) (part ++ postOf 0 (t - 0) out) zs ≡ filled part more
 unfolding filled
-filled-out part out zs t e h o z =
+filled-out part out zs more t e h o z =
     let rest = drop (t - 0) out in
     let r : length rest ≡ 128 - t = simp length-drop (omega arith) in
     let back : drop t (part ++ rest) ≡ rest = drop-at part rest t e in
     let none : drop (128 - t) (drop t (part ++ rest)) ≡ [] = ap (drop (128 - t)) back ∙ drop-all (128 - t) rest (omega arith) in
     let mid : length (take (128 - t) (drop t (part ++ rest))) ≡ 128 - length part =
-        ap (λ l. length (take (128 - t) l)) back ∙ simp length-take (omega arith) in
-    let zeros : zs ≡ replicate (128 - length part) 0 = z ∙ ap (λ k. replicate k 0) mid in
+    ap (λ l. length (take (128 - t) l)) back ∙ simp length-take (omega arith) in
+    let same : zs ≡ replicate (128 - length part) more = z ∙ ap (λ k. replicate k more) mid in
     ap (λ l. l ++ (zs ++ drop (128 - t) (drop t (part ++ rest)))) (take-at part rest t e)
-    ∙ ap (λ l. part ++ l) (ap (λ l. zs ++ l) none ∙ append-nil zs ∙ zeros)
+    ∙ ap (λ l. part ++ l) (ap (λ l. zs ++ l) none ∙ append-nil zs ∙ same)
 
 -- The lines of RAM and what is kept past them are all of its bytes.
 module _ (a b : List ℕ) (lines : (n : ℕ) → line-of a n ≡ line-of b n) where

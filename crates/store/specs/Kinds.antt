@@ -1,7 +1,7 @@
 -- What each kind of store means. Sizes are cut at the most lines that a store has.
 use Prim.Native.Nat.{ℕ, _+_, _-_, _*_, _/_, min}
 use mathlib.Core.Bool.{Bool, false, cond, _&&_}
-use mathlib.Core.List.{List, _++_}
+use mathlib.Core.List.{List, [], _++_}
 use lib.Dec.{ltb, leb}
 use lib.ListN.{length, take, drop, replicate}
 use Rattle.store.specs.Meaning.{Meaning, most, nothing, loan, both}
@@ -18,9 +18,9 @@ whole-lines bytes = min (length bytes / 128) most
 abbrev pub ram : ℕ → List ℕ → Meaning
 ram name bytes = record { size = whole-lines bytes; line = line-of bytes; canwrite = λ n. ltb n (whole-lines bytes); kept = loan name (drop (128 * whole-lines bytes) bytes) }
 
--- Bytes filled up with zeros to a line.
-unfoldable pub filled : List ℕ → List ℕ
-filled bytes = bytes ++ replicate (128 - length bytes) 0
+-- Bytes filled up to a line with one more byte as often as it takes.
+unfoldable pub filled : List ℕ → ℕ → List ℕ
+filled bytes more = bytes ++ replicate (128 - length bytes) more
 
 -- The number of lines that some bytes take up, the last of them perhaps in part.
 abbrev pub begun-lines : List ℕ → ℕ
@@ -28,15 +28,11 @@ begun-lines bytes = min ((length bytes + 127) / 128) most
 
 -- ROM over bytes held for reading: its last line is filled up with zeros, and none is writable.
 abbrev pub rom : List ℕ → Meaning
-rom bytes = record { size = begun-lines bytes; line = λ n. filled (line-of bytes n); canwrite = λ _. false; kept = nothing }
-
--- 128 bytes of 0xFF.
-unfoldable pub high-line : List ℕ
-high-line = replicate 128 255
+rom bytes = record { size = begun-lines bytes; line = λ n. filled (line-of bytes n) 0; canwrite = λ _. false; kept = nothing }
 
 -- Open bus of a chosen size: every byte is 0xFF, and no line is writable.
 abbrev pub open-bus : ℕ → Meaning
-open-bus lines = record { size = min lines most; line = λ _. high-line; canwrite = λ _. false; kept = nothing }
+open-bus lines = record { size = min lines most; line = λ _. filled [] 0xFF; canwrite = λ _. false; kept = nothing }
 
 -- A fuse: the lines below a number cannot be written. All else is the store's beneath it.
 abbrev pub fuse : ℕ → Meaning → Meaning

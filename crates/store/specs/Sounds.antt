@@ -2,14 +2,14 @@
 use Prim.Native.Nat.{ℕ, _*_, _+_, _-_, _/_, _<_, _≤_, min}
 use mathlib.Core.Path.{_≡_, refl}
 use mathlib.Core.Bool.{Bool, true, false, cond, _&&_}
-use mathlib.Core.List.{List}
+use mathlib.Core.List.{List, []}
 use mathlib.Core.Logic.{⊎-elim}
 use native.Mathlib.Omega.{arith}
 use lib.Dec.{ltb, leb}
 use lib.ListN.{length, take, drop, replicate, length-take, length-drop, length-append, length-replicate}
 use Rattle.std.proofs.shelf.Tests.{ltb-true, lt-ltb, le-ltb, and-parts, false≢true, cases-lt}
 use Rattle.store.specs.Meaning.{Meaning, Sound, most}
-use Rattle.store.specs.Kinds.{line-of, whole-lines, begun-lines, filled, high-line, ram, rom, open-bus, fuse, split}
+use Rattle.store.specs.Kinds.{line-of, whole-lines, begun-lines, filled, ram, rom, open-bus, fuse, split}
 
 whole-line : (bytes : List ℕ) (n : ℕ) → n < whole-lines bytes → length (line-of bytes n) ≡ 128
 whole-line bytes n h = simp (length-take, length-drop) (omega arith)
@@ -18,20 +18,16 @@ pub ram-sound : (name : ℕ) (bytes : List ℕ) → Sound (ram name bytes)
 ram-sound name bytes =
     record { bounded = omega arith; whole = whole-line bytes; within = λ n e. ltb-true n (whole-lines bytes) e }
 
-filled-line : (bytes : List ℕ) → length bytes ≤ 128 → length (filled bytes) ≡ 128
+filled-line : (bytes : List ℕ) (more : ℕ) → length bytes ≤ 128 → length (filled bytes more) ≡ 128
 unfolding filled
-filled-line bytes h = simp (length-append, length-replicate) (omega arith)
+filled-line bytes more h = simp (length-append, length-replicate) (omega arith)
 
 pub rom-sound : (bytes : List ℕ) → Sound (rom bytes)
 rom-sound bytes =
-    record { bounded = omega arith; whole = λ n h. filled-line (line-of bytes n) (simp length-take (omega arith)); within = λ n e. absurd (false≢true e) }
-
-high-whole : length high-line ≡ 128
-unfolding high-line
-high-whole = length-replicate {A = ℕ} 128 255
+    record { bounded = omega arith; whole = λ n h. filled-line (line-of bytes n) 0 (simp length-take (omega arith)); within = λ n e. absurd (false≢true e) }
 
 pub open-sound : (lines : ℕ) → Sound (open-bus lines)
-open-sound lines = record { bounded = omega arith; whole = λ n h. high-whole; within = λ n e. absurd (false≢true e) }
+open-sound lines = record { bounded = omega arith; whole = λ n h. filled-line [] 0xFF (omega arith); within = λ n e. absurd (false≢true e) }
 
 pub fuse-sound : (below : ℕ) (m : Meaning) → Sound m → Sound (fuse below m)
 fuse-sound below m s =

@@ -1,5 +1,4 @@
 // Fuse: a layer that makes the lines below a number unwritable.
-ghost use mathlib.Core.Path.{_≡_};
 ghost use Rattle.store.specs.Kinds.{fuse};
 ghost use Rattle.store.specs.Sounds.{fuse-sound};
 use crate::fault::LineFault;
@@ -8,24 +7,8 @@ use crate::store::refuse;
 
 #[derive(Drop)]
 pub struct Fuse<S> {
-    below: u32,
-    under: S,
-}
-
-impl<S: Store> Fuse<S> {
-    pub fn new(below: u32, under: S) -> Self
-        ensures { λ r. ⌜ (r .below ≡ below) × (r .under ≡ under) ⌝ }
-    {
-        Fuse { below, under }
-    }
-
-    // Takes the fuse off again.
-    pub fn into_inner(self) -> S
-        ensures { λ r. ⌜ r ≡ self .under ⌝ }
-    {
-        let Fuse { below: _, under } = self;
-        under
-    }
+    pub below: u32,
+    pub under: S,
 }
 
 pub impl<S: Store> Store for Fuse<S> as FuseStore {

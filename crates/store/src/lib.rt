@@ -2,6 +2,7 @@
 // which lines can be written) and what its four questions answer; RAM, ROM, open bus and the layers
 // fuse and split are stores. It uses the refusals and nothing else.
 mod fault;
+mod fill;
 mod fuse;
 mod open_bus;
 mod ram;

@@ -3,6 +3,7 @@ ghost use mathlib.Core.Path.{_≡_};
 ghost use Rattle.store.specs.Kinds.{open-bus};
 ghost use Rattle.store.specs.Sounds.{open-sound};
 use crate::fault::LineFault;
+use crate::fill::fill;
 use crate::store::MOST_LINES;
 use crate::store::Store;
 use refusal::Refusal;
@@ -35,16 +36,25 @@ pub impl Store for OpenBus as OpenBusStore {
 
     fn read(&self, line: u32, out: &mut [u8; 128]) -> Result<(), LineFault> {
         if line >= self.size() {
-            return Err(LineFault { cause: Refusal::MissingLine, line });
+            return Err(LineFault {
+                cause: Refusal::MissingLine,
+                line,
+            });
         }
-        out.fill(0xFF);
+        fill(out, &[], 0xFF);
         Ok(())
     }
 
     fn write(&mut self, line: u32, _bytes: &[u8; 128]) -> Result<(), LineFault> {
         if line >= self.size() {
-            return Err(LineFault { cause: Refusal::MissingLine, line });
+            return Err(LineFault {
+                cause: Refusal::MissingLine,
+                line,
+            });
         }
-        Err(LineFault { cause: Refusal::FixedLine, line })
+        Err(LineFault {
+            cause: Refusal::FixedLine,
+            line,
+        })
     }
 }

@@ -1,8 +1,10 @@
 // RAM over bytes that a caller lent.
 ghost use mathlib.Core.Path.{_≡_};
 ghost use mathlib.Core.List.{[]};
+ghost use Prim.Native.Nat.{_<_};
 ghost use denote.Ref.{now, name};
-ghost use Rattle.store.specs.Kinds.{ram};
+ghost use Rattle.store.specs.Kinds.{ram, whole-lines};
+ghost use Rattle.store.specs.Meaning.{with-line};
 ghost use Rattle.store.specs.Sounds.{ram-sound};
 use crate::fault::LineFault;
 use crate::store::MOST_LINES;
@@ -29,6 +31,15 @@ impl<'a> Ram<'a> {
     {
         std::mem::replace(self, Ram { bytes: &mut [] })
     }
+
+    // Replaces the bytes of a line that is there.
+    fn put(&mut self, line: u32, new: &[u8; 128])
+        requires { ⌜ line < whole-lines (now (now self .bytes)) ⌝ }
+        ensures { λ _. ⌜ ram (name (now (self .exit) .bytes)) (now (now (self .exit) .bytes)) ≡ with-line (ram (name (now (self .entry) .bytes)) (now (now (self .entry) .bytes))) line (now (new .entry)) ⌝ }
+    {
+        let at = line as usize * 128;
+        self.bytes[at..at + 128].copy_from_slice(new);
+    }
 }
 
 pub impl<'a> Store for Ram<'a> as RamStore {
@@ -46,7 +57,10 @@ pub impl<'a> Store for Ram<'a> as RamStore {
 
     fn read(&self, line: u32, out: &mut [u8; 128]) -> Result<(), LineFault> {
         if line >= self.size() {
-            return Err(LineFault { cause: Refusal::MissingLine, line });
+            return Err(LineFault {
+                cause: Refusal::MissingLine,
+                line,
+            });
         }
         let at = line as usize * 128;
         out.copy_from_slice(&self.bytes[at..at + 128]);
@@ -55,10 +69,12 @@ pub impl<'a> Store for Ram<'a> as RamStore {
 
     fn write(&mut self, line: u32, bytes: &[u8; 128]) -> Result<(), LineFault> {
         if line >= self.size() {
-            return Err(LineFault { cause: Refusal::MissingLine, line });
+            return Err(LineFault {
+                cause: Refusal::MissingLine,
+                line,
+            });
         }
-        let at = line as usize * 128;
-        self.bytes[at..at + 128].copy_from_slice(bytes);
+        self.put(line, bytes);
         Ok(())
     }
 }

@@ -1,9 +1,12 @@
 // ROM over bytes held for reading.
+ghost use Prim.Native.Nat.{_*_, _≤_};
 ghost use mathlib.Core.Path.{_≡_};
+ghost use lib.ListN.{length};
 ghost use denote.Ref.{now};
-ghost use Rattle.store.specs.Kinds.{rom};
+ghost use Rattle.store.specs.Kinds.{line-of, rom};
 ghost use Rattle.store.specs.Sounds.{rom-sound};
 use crate::fault::LineFault;
+use crate::fill::fill;
 use crate::store::MOST_LINES;
 use crate::store::Store;
 use refusal::Refusal;
@@ -36,19 +39,35 @@ pub impl<'a> Store for Rom<'a> as RomStore {
 
     fn read(&self, line: u32, out: &mut [u8; 128]) -> Result<(), LineFault> {
         if line >= self.size() {
-            return Err(LineFault { cause: Refusal::MissingLine, line });
+            return Err(LineFault {
+                cause: Refusal::MissingLine,
+                line,
+            });
         }
-        let at = line as usize * 128;
-        let there = (self.bytes.len() - at).min(128);
-        out[0..there].copy_from_slice(&self.bytes[at..at + there]);
-        out[there..].fill(0);
+        fill(out, there(self.bytes, line), 0);
         Ok(())
     }
 
     fn write(&mut self, line: u32, _bytes: &[u8; 128]) -> Result<(), LineFault> {
         if line >= self.size() {
-            return Err(LineFault { cause: Refusal::MissingLine, line });
+            return Err(LineFault {
+                cause: Refusal::MissingLine,
+                line,
+            });
         }
-        Err(LineFault { cause: Refusal::FixedLine, line })
+        Err(LineFault {
+            cause: Refusal::FixedLine,
+            line,
+        })
     }
+}
+
+// What is there of a line.
+fn there(bytes: &[u8], line: u32) -> &[u8]
+    requires { ⌜ 128 * line ≤ length (now bytes) ⌝ }
+    ensures { λ r. ⌜ (now r ≡ line-of (now (bytes .entry)) line) × (length (now r) ≤ 128) ⌝ }
+{
+    let at = line as usize * 128;
+    let end = bytes.len().min(at + 128);
+    &bytes[at..end]
 }

@@ -1,5 +1,4 @@
 // Split: a layer that sets one store's lines after another's.
-ghost use mathlib.Core.Path.{_≡_};
 ghost use Rattle.store.specs.Kinds.{split};
 ghost use Rattle.store.specs.Sounds.{split-sound};
 use crate::fault::LineFault;
@@ -9,24 +8,8 @@ use refusal::Refusal;
 
 #[derive(Drop)]
 pub struct Split<S, T> {
-    low: S,
-    high: T,
-}
-
-impl<S: Store, T: Store> Split<S, T> {
-    pub fn new(low: S, high: T) -> Self
-        ensures { λ r. ⌜ (r .low ≡ low) × (r .high ≡ high) ⌝ }
-    {
-        Split { low, high }
-    }
-
-    // Takes the two stores apart again.
-    pub fn into_inner(self) -> (S, T)
-        ensures { λ r. ⌜ (r .0 ≡ self .low) × (r .1 ≡ self .high) ⌝ }
-    {
-        let Split { low, high } = self;
-        (low, high)
-    }
+    pub low: S,
+    pub high: T,
 }
 
 pub impl<S: Store, T: Store> Store for Split<S, T> as SplitStore {
@@ -35,7 +18,10 @@ pub impl<S: Store, T: Store> Store for Split<S, T> as SplitStore {
     ghost sound = { λ s. split-sound (S·Store .meaning (s .low)) (T·Store .meaning (s .high)) (S·Store .sound (s .low)) (T·Store .sound (s .high)) };
 
     fn size(&self) -> u32 {
-        self.low.size().saturating_add(self.high.size()).min(MOST_LINES)
+        self.low
+            .size()
+            .saturating_add(self.high.size())
+            .min(MOST_LINES)
     }
 
     fn writable(&self, line: u32) -> bool {
@@ -43,20 +29,34 @@ pub impl<S: Store, T: Store> Store for Split<S, T> as SplitStore {
             return false;
         }
         let first = self.low.size();
-        if line < first { self.low.writable(line) } else { self.high.writable(line - first) }
+        if line < first {
+            self.low.writable(line)
+        } else {
+            self.high.writable(line - first)
+        }
     }
 
     fn read(&self, line: u32, out: &mut [u8; 128]) -> Result<(), LineFault> {
         if line >= self.size() {
-            return Err(LineFault { cause: Refusal::MissingLine, line });
+            return Err(LineFault {
+                cause: Refusal::MissingLine,
+                line,
+            });
         }
         let first = self.low.size();
-        if line < first { self.low.read(line, out) } else { self.high.read(line - first, out) }
+        if line < first {
+            self.low.read(line, out)
+        } else {
+            self.high.read(line - first, out)
+        }
     }
 
     fn write(&mut self, line: u32, bytes: &[u8; 128]) -> Result<(), LineFault> {
         if line >= self.size() {
-            return Err(LineFault { cause: Refusal::MissingLine, line });
+            return Err(LineFault {
+                cause: Refusal::MissingLine,
+                line,
+            });
         }
         let first = self.low.size();
         if line < first {
@@ -64,7 +64,10 @@ pub impl<S: Store, T: Store> Store for Split<S, T> as SplitStore {
         }
         match self.high.write(line - first, bytes) {
             Ok(()) => Ok(()),
-            Err(fault) => Err(LineFault { cause: fault.cause, line }),
+            Err(fault) => Err(LineFault {
+                cause: fault.cause,
+                line,
+            }),
         }
     }
 }

@@ -34,7 +34,11 @@ pub trait Store {
 pub fn refuse<S: Store>(store: &S, line: u32) -> LineFault
     ensures { λ r. ⌜ r ≡ refused (S·Store .meaning (now (store .entry))) line ⌝ }
 {
-    let cause = if line < store.size() { Refusal::FixedLine } else { Refusal::MissingLine };
+    let cause = if line < store.size() {
+        Refusal::FixedLine
+    } else {
+        Refusal::MissingLine
+    };
     LineFault { cause, line }
 }
 
@@ -42,5 +46,9 @@ pub fn refuse<S: Store>(store: &S, line: u32) -> LineFault
 pub fn admit<S: Store>(store: &S, line: u32) -> Result<(), LineFault>
     ensures { λ r. ⌜ Admits (S·Store .meaning (now (store .entry))) line r ⌝ }
 {
-    if store.writable(line) { Ok(()) } else { Err(refuse(store, line)) }
+    if store.writable(line) {
+        Ok(())
+    } else {
+        Err(refuse(store, line))
+    }
 }

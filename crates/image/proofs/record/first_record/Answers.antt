@@ -16,6 +16,7 @@ returns-in-2 c = front-ends (c .args .bytes .now) (omega arith) (omega arith) (o
 
 pub returns-in-rest : need.returns-in-rest
 returns-in-rest c =
-    elim (c .in-rest .came)
-      [ in-rest·by·in-2·else-long-eq0 w ↦ front-full-end (c .args .bytes .now) (omega arith) (omega arith) (omega arith)
-      | in-rest·by·in-rest· w ↦ front-unknown (c .args .bytes .now) (omega arith) (omega arith) (omega arith) ]
+    elim (c .in-rest .came) [
+      | in-rest·by·in-2·else-long-eq0 w ↦ front-full-end (c .args .bytes .now) (omega arith) (omega arith) (omega arith)
+      | in-rest·by·in-rest· w ↦ front-unknown (c .args .bytes .now) (omega arith) (omega arith) (omega arith)
+    ]
