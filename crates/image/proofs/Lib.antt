@@ -2,6 +2,7 @@ pub mod Again
 pub mod Checking
 pub mod Fronts
 pub mod Located
+pub mod Outcomes
 pub mod Puts
 pub mod Spans
 pub mod Splices

@@ -60,6 +60,11 @@ abbrev pub Loads : Meaning → List ℕ → Result (Unit {0}) Fault → Meaning 
 Loads m image (Ok _) after = (ps : List Placed) × Good m image ps × (after ≡ put-all m ps)
 Loads m image (Err f) after = Faulty m image (f .at) (f .cause) × (after ≡ m)
 
+-- Of an image and a store there is one outcome: this one.
+pub record The-outcome (m : Meaning) (image : List ℕ) (r : Result (Unit {0}) Fault) (after : Meaning) : Type 0 where
+  pub loads : Loads m image r after
+  pub only : (s : Result (Unit {0}) Fault) (other : Meaning) → Loads m image s other → (s ≡ r) × (other ≡ after)
+
 -- Loading into bytes that a caller lends as RAM, beneath a fuse, whatever name the loan has. The bytes are then those of the store's meaning: its lines, and the bytes past the last whole line as they were. A refused image leaves them as they were.
 abbrev pub Loads-bytes : ℕ → List ℕ → List ℕ → Result (Unit {0}) Fault → List ℕ → Type 0
 Loads-bytes below before image (Ok x) after = (name : ℕ) × Loads (fuse below (ram name before)) image (Ok x) (fuse below (ram name after))
