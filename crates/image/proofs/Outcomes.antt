@@ -75,8 +75,8 @@ module _ (m : Meaning) where
   misfits-one a b n k h g =
       ⊎-elim (λ e. sym (h .2) ∙ ap (line-at a) e ∙ g .2)
       (⊎-elim
-        (λ l. absurd (both-ways (m .canwrite n) (h .3) (subst (λ y. m .canwrite y ≡ true) (h .2) (g .4 (h .0) l))))
-        (λ l. absurd (both-ways (m .canwrite k) (g .3) (subst (λ y. m .canwrite y ≡ true) (g .2) (h .4 (g .0) l)))))
+      (λ l. absurd (both-ways (m .canwrite n) (h .3) (subst (λ y. m .canwrite y ≡ true) (h .2) (g .4 (h .0) l))))
+      (λ l. absurd (both-ways (m .canwrite k) (g .3) (subst (λ y. m .canwrite y ≡ true) (g .2) (h .4 (g .0) l)))))
       (cases-order (h .0) (g .0))
 
   first-not : {ps : List Placed} {x n : ℕ} → First-misfit m ps x n → All-fit m ps → ⊥

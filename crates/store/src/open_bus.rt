@@ -3,10 +3,11 @@ ghost use mathlib.Core.Path.{_≡_};
 ghost use Rattle.store.specs.Kinds.{open-bus};
 ghost use Rattle.store.specs.Sounds.{open-sound};
 use crate::fault::LineFault;
+use crate::fault::fixed;
+use crate::fault::missing;
 use crate::fill::fill;
 use crate::store::MOST_LINES;
 use crate::store::Store;
-use refusal::Refusal;
 
 #[derive(Clone, Copy)]
 pub struct OpenBus {
@@ -36,10 +37,7 @@ pub impl Store for OpenBus as OpenBusStore {
 
     fn read(&self, line: u32, out: &mut [u8; 128]) -> Result<(), LineFault> {
         if line >= self.size() {
-            return Err(LineFault {
-                cause: Refusal::MissingLine,
-                line,
-            });
+            return Err(missing(line));
         }
         fill(out, &[], 0xFF);
         Ok(())
@@ -47,14 +45,8 @@ pub impl Store for OpenBus as OpenBusStore {
 
     fn write(&mut self, line: u32, _bytes: &[u8; 128]) -> Result<(), LineFault> {
         if line >= self.size() {
-            return Err(LineFault {
-                cause: Refusal::MissingLine,
-                line,
-            });
+            return Err(missing(line));
         }
-        Err(LineFault {
-            cause: Refusal::FixedLine,
-            line,
-        })
+        Err(fixed(line))
     }
 }

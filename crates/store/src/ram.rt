@@ -7,9 +7,9 @@ ghost use Rattle.store.specs.Kinds.{ram, whole-lines};
 ghost use Rattle.store.specs.Meaning.{with-line};
 ghost use Rattle.store.specs.Sounds.{ram-sound};
 use crate::fault::LineFault;
+use crate::fault::missing;
 use crate::store::MOST_LINES;
 use crate::store::Store;
-use refusal::Refusal;
 
 #[derive(Drop)]
 pub struct Ram<'a> {
@@ -57,10 +57,7 @@ pub impl<'a> Store for Ram<'a> as RamStore {
 
     fn read(&self, line: u32, out: &mut [u8; 128]) -> Result<(), LineFault> {
         if line >= self.size() {
-            return Err(LineFault {
-                cause: Refusal::MissingLine,
-                line,
-            });
+            return Err(missing(line));
         }
         let at = line as usize * 128;
         out.copy_from_slice(&self.bytes[at..at + 128]);
@@ -69,10 +66,7 @@ pub impl<'a> Store for Ram<'a> as RamStore {
 
     fn write(&mut self, line: u32, bytes: &[u8; 128]) -> Result<(), LineFault> {
         if line >= self.size() {
-            return Err(LineFault {
-                cause: Refusal::MissingLine,
-                line,
-            });
+            return Err(missing(line));
         }
         self.put(line, bytes);
         Ok(())

@@ -6,10 +6,11 @@ ghost use denote.Ref.{now};
 ghost use Rattle.store.specs.Kinds.{line-of, rom};
 ghost use Rattle.store.specs.Sounds.{rom-sound};
 use crate::fault::LineFault;
+use crate::fault::fixed;
+use crate::fault::missing;
 use crate::fill::fill;
 use crate::store::MOST_LINES;
 use crate::store::Store;
-use refusal::Refusal;
 
 #[derive(Drop)]
 pub struct Rom<'a> {
@@ -39,10 +40,7 @@ pub impl<'a> Store for Rom<'a> as RomStore {
 
     fn read(&self, line: u32, out: &mut [u8; 128]) -> Result<(), LineFault> {
         if line >= self.size() {
-            return Err(LineFault {
-                cause: Refusal::MissingLine,
-                line,
-            });
+            return Err(missing(line));
         }
         fill(out, there(self.bytes, line), 0);
         Ok(())
@@ -50,15 +48,9 @@ pub impl<'a> Store for Rom<'a> as RomStore {
 
     fn write(&mut self, line: u32, _bytes: &[u8; 128]) -> Result<(), LineFault> {
         if line >= self.size() {
-            return Err(LineFault {
-                cause: Refusal::MissingLine,
-                line,
-            });
+            return Err(missing(line));
         }
-        Err(LineFault {
-            cause: Refusal::FixedLine,
-            line,
-        })
+        Err(fixed(line))
     }
 }
 

@@ -2,9 +2,9 @@
 ghost use Rattle.store.specs.Kinds.{split};
 ghost use Rattle.store.specs.Sounds.{split-sound};
 use crate::fault::LineFault;
+use crate::fault::missing;
 use crate::store::MOST_LINES;
 use crate::store::Store;
-use refusal::Refusal;
 
 #[derive(Drop)]
 pub struct Split<S, T> {
@@ -38,10 +38,7 @@ pub impl<S: Store, T: Store> Store for Split<S, T> as SplitStore {
 
     fn read(&self, line: u32, out: &mut [u8; 128]) -> Result<(), LineFault> {
         if line >= self.size() {
-            return Err(LineFault {
-                cause: Refusal::MissingLine,
-                line,
-            });
+            return Err(missing(line));
         }
         let first = self.low.size();
         if line < first {
@@ -53,10 +50,7 @@ pub impl<S: Store, T: Store> Store for Split<S, T> as SplitStore {
 
     fn write(&mut self, line: u32, bytes: &[u8; 128]) -> Result<(), LineFault> {
         if line >= self.size() {
-            return Err(LineFault {
-                cause: Refusal::MissingLine,
-                line,
-            });
+            return Err(missing(line));
         }
         let first = self.low.size();
         if line < first {

@@ -4,7 +4,8 @@ ghost use denote.Ref.{now};
 ghost use Rattle.store.specs.Meaning.{Meaning, Sound};
 ghost use Rattle.store.specs.Rules.{Admits, Reads, Writes, refused};
 use crate::fault::LineFault;
-use refusal::Refusal;
+use crate::fault::fixed;
+use crate::fault::missing;
 
 // No store has more lines.
 pub const MOST_LINES: u32 = 33_554_432;
@@ -34,12 +35,11 @@ pub trait Store {
 pub fn refuse<S: Store>(store: &S, line: u32) -> LineFault
     ensures { λ r. ⌜ r ≡ refused (S·Store .meaning (now (store .entry))) line ⌝ }
 {
-    let cause = if line < store.size() {
-        Refusal::FixedLine
+    if line < store.size() {
+        fixed(line)
     } else {
-        Refusal::MissingLine
-    };
-    LineFault { cause, line }
+        missing(line)
+    }
 }
 
 // Whether the store would take a line, and if not, why.

@@ -2,6 +2,7 @@
 // give, worked out by hand and proved. It uses the crates whose answers it holds.
 ghost use mathlib.Core.Path.{_≡_};
 ghost use Rattle.sums.specs.Table.{table};
+
 mod rows;
 
 pub use rows::Sums;
