@@ -8,7 +8,7 @@ loop-next-again c =
     let shown = rw (c .in-Some .is) at (c .in-Continue-next .ensures tt) in
     let back = malformed-before (c .args .image .now) (c .loop-next .at) (c .in-Some .next) (shown .0) (shown .1) (shown .2) (shown .3) in
     let whole = image-before (c .args .image .now) (c .loop-next .at) (c .in-Some .next) (shown .0) (shown .1) (shown .2) (shown .3) in
-    (shown .4, λ x r w. c .loop-next .inv .1 x r (back x r w), λ ps w. c .loop-next .inv .2 (_ ∷ ps) (whole ps w))
+    (shown .4, λ x r w. c .loop-next .inv .1 x r (back x r w), λ ps w. c .loop-next .inv .2 (record { at = c .loop-next .at; address = shown .0; bytes = shown .1 } ∷ ps) (whole ps w))
 
 pub returns : need.returns
 returns c =

@@ -1,0 +1,10 @@
+-- What came so far is within the buffer, and each turn adds to it.
+use Prim.Native.Nat.{_-_, _≤_}
+use lib.ListN.{length}
+use Rattle.bench.proofs.file.read_front.Given as given
+
+abbrev pub Inv-loop-count : given.InvT-loop-count
+Inv-loop-count l = l .count ≤ length (l .entry .buffer)
+
+abbrev pub μ-loop-count : given.MeasureT-loop-count
+μ-loop-count l = length (l .entry .buffer) - l .count

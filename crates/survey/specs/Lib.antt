@@ -1,0 +1,4 @@
+pub mod Blank
+pub mod Runs
+pub mod Counts
+pub mod Outcomes
