@@ -1,4 +1,5 @@
-"""Writes the example images: crates/inspect/data/bench.img and crates/inspect_damaged/data/bench.img.
+"""Writes the example images: bench.img of the program inspect, and damaged.img and long.img of the
+test program bench_files.
 
 An image is a row of records. Each has a 6-byte header, the length of its body in 4 bytes and its
 kind in 2, and then the body; all numbers have their lowest byte first. Kind 1 places bytes: its
@@ -16,8 +17,10 @@ bytes:
     lines 6 to 10     blank until the program has run: the results, the supervisor's scratch line,
                       two lines for what the user hands over, and the record of the shift
 
-The damaged image is the same with one more place, on line 300, which a bench with 256 lines of RAM does
+damaged.img is the same with one more place, on line 300, which a bench with 256 lines of RAM does
 not have.
+
+long.img has 70,000 bytes, of which the first 65,536 are a whole image.
 
 Run it anywhere: it needs nothing but Python 3 and writes the same bytes each time.
 """
@@ -234,7 +237,14 @@ places = [
 # A place on a line that the bench does not have.
 astray = place(300 * LINE, code([retx()]))
 
+# An image of exactly 65,536 bytes: two places of as many bytes as fit, the second over the first. In
+# long.img more bytes follow, which do not count.
+HALF = (65536 - 2 * 10 - 6) // 2
+long = place(0, b"\x02" * HALF) + place(0, b"\x01" * HALF) + end()
+assert len(long) == 65536
+
 if __name__ == "__main__":
     (ROOT / "crates/inspect/data").mkdir(parents=True, exist_ok=True)
     (ROOT / "crates/inspect/data/bench.img").write_bytes(b"".join(places) + end())
-    (ROOT / "crates/inspect_damaged/data/bench.img").write_bytes(b"".join(places) + astray + end())
+    (ROOT / "crates/bench_files/data/damaged.img").write_bytes(b"".join(places) + astray + end())
+    (ROOT / "crates/bench_files/data/long.img").write_bytes(long + b"Z" * 4464)

@@ -23,8 +23,8 @@ pub struct Fault {
 pub impl From<LineFault> for Cause as CauseFromLine {
     ghost converts = { λ e r. r ≡ Line e };
 
-    fn from(fault: LineFault) -> Cause {
-        Cause::Line(fault)
+    fn from(refused: LineFault) -> Cause {
+        Cause::Line(refused)
     }
 }
 

@@ -33,7 +33,7 @@ fn print_store<S: Store>(rt: &LibcRuntime, store: &S) -> io::Result<()> {
 fn main(rt: LibcRuntime) -> io::Result<()> {
     let mut memory = vec![in rt.alloc(); 0; RAM_BYTES]?;
     let mut ram = Ram::new(&mut memory);
-    let outcome = OutcomeText(load_file(&rt, &mut ram)?);
+    let outcome = OutcomeText(load_file(&rt, "bench.img", &mut ram)?);
     println!(rt, "{outcome}")?;
     print_store(&rt, &on_bench(ram))
 }

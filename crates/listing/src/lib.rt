@@ -1,6 +1,7 @@
 // The text of a survey: a word as its operation with the fields by name, a run of lines with its
 // words, and what became of an image. It makes text and prints nothing. It uses `survey` for what is
-// shown, `word` for the operations and `text` for hexadecimal digits.
+// shown, `word` for the operations, `text` for hexadecimal digits, and `image` and `refusal` for what is
+// said of a fault.
 mod disassembly;
 mod names;
 mod outcomes;

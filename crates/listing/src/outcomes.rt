@@ -11,7 +11,7 @@ pub impl fmt::Display for OutcomeText as OutcomeTextDisplay {
     fn fmt<W: fmt::Write>(&self, f: &mut fmt::Formatter<W>) -> fmt::Result {
         match self.0 {
             Outcome::Missing => write!(f, "no image"),
-            Outcome::Unreadable => write!(f, "no image: bench.img cannot be read"),
+            Outcome::Unreadable => write!(f, "no image: the file cannot be read"),
             Outcome::Taken(count) => write!(f, "image taken, {count} bytes"),
             Outcome::Refused(fault) => {
                 let number = fault.refusal().number();

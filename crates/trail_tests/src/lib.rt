@@ -10,7 +10,7 @@ ghost use Rattle.trail.specs.Trails.{filled};
 use refusal::Refusal;
 use trail::Trail;
 
-// A record of several fields, as a line sent back is.
+// A record of several fields.
 #[derive(Clone, Copy, PartialEq, Debug)]
 struct Sent {
     line: u32,

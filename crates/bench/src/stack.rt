@@ -1,5 +1,8 @@
 // The stores of the bench, one on the other.
 ghost use mathlib.Core.Path.{_≡_};
+ghost use denote.Ref.{name, now};
+ghost use Rattle.bench.specs.Stack.{bench-over};
+ghost use Rattle.store.specs.Kinds.{fuse, open-bus, ram, split};
 use store::Fuse;
 use store::OpenBus;
 use store::Ram;
@@ -15,7 +18,7 @@ const OPEN_LINES: u32 = 256;
 
 // Lays the fuse over the RAM, and the open bus above.
 pub fn on_bench<'a>(memory: Ram<'a>) -> Split<Fuse<Ram<'a>>, OpenBus>
-    ensures { λ r. ⌜ (r .low .under ≡ memory .entry) × (r .low .below ≡ 2) × (r .high .lines ≡ 256) ⌝ }
+    ensures { λ r. ⌜ split (fuse (r .low .below) (ram (name (r .low .under .bytes)) (now (r .low .under .bytes)))) (open-bus (r .high .lines)) ≡ bench-over (ram (name (memory .entry .bytes)) (now (memory .entry .bytes))) ⌝ }
 {
     Split {
         low: Fuse {
