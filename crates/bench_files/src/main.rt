@@ -1,5 +1,7 @@
 // A test program: what becomes of files that are missing, unreadable, damaged or too long, and how
 // many bytes of the bench's RAM each changes. It uses `bench` and `listing`, as `inspect` does.
+#![tactic(auto)]
+
 use bench::{RAM_BYTES, load_file};
 use listing::OutcomeText;
 use std::io;

@@ -1,6 +1,8 @@
 // A test program: every operation at every type on a table of edge values, scalar and vector,
 // division, and every reduction. What it prints is held to what the separate program
 // examples/edge_values.py works out from the rules alone. It uses `scalar` and `line` for the answers.
+#![tactic(auto)]
+
 use element::ElementType;
 use line::{Place, divide_lines, fill, get, has_zero, put, reduce, vector, vector_addr, zeros};
 use scalar::{cast, compute, divide};

@@ -1,6 +1,8 @@
 // The types of elements, by which registers, loads, stores and dup read and write the bytes of a
 // line: the number, the width and the sign of each. specs/Types.antt holds them. It uses no other
 // crate.
+#![tactic(auto)]
+
 ghost use Rattle.element.specs.Types.{type_number, width, bits, signed, Named};
 ghost use Rattle.std.specs.Prelude.{◌≡◌};
 

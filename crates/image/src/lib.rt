@@ -1,5 +1,7 @@
 // The image loader: reads an image of records and writes its places into any store, or says which
 // record is at fault and why and leaves the store as it was. It uses the refusals and the stores.
+#![tactic(auto)]
+
 mod fault;
 mod lent;
 mod loading;

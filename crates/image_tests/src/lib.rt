@@ -1,6 +1,8 @@
 // Images loaded into RAM, and beneath a fuse: which are refused, with which number, at which byte
 // place and for which line, and which bytes an accepted one writes. Records are byte arrays, and
 // every answer stands as a number that was written by hand. It uses `image`, `store` and `refusal`.
+#![tactic(auto)]
+
 #[cfg(test)]
 mod tests {
     use image::{Fault, load_bytes};

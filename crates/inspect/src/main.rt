@@ -1,6 +1,8 @@
 // The program `inspect`: loads bench.img, if it is there, into the stores of the bench and prints
 // what they hold, line by line and word by word. It uses `bench` for the stores and the file,
 // `survey` for what they hold and `listing` for its text; it only prints.
+#![tactic(auto)]
+
 use bench::{RAM_BYTES, load_file, on_bench};
 use listing::{OutcomeText, RunText};
 use std::io;

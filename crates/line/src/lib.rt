@@ -2,6 +2,8 @@
 // element of a line, and the reductions of a line to one number. A loop over a line is compiled for
 // one type and one operation. It uses `element` for the types, `word` for the names of the
 // operations, and `scalar` for the arithmetic of one element.
+#![tactic(auto)]
+
 mod dividing;
 mod elements;
 mod kinds;

@@ -1,5 +1,7 @@
 // Functions on lines that C and Rust can call, so that a benchmark can run them beside others. Types
 // of elements go by their numbers. It uses `line` for the work.
+#![tactic(auto)]
+
 ghost use Rattle.line.specs.Dividing.{any_zero, quotient_line, remainder_line};
 ghost use Rattle.line.specs.Reductions.{reduced};
 ghost use Rattle.line.specs.Vectors.{vector as vectorOf};

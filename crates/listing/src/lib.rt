@@ -2,6 +2,8 @@
 // words, and what became of an image. It makes text and prints nothing. It uses `survey` for what is
 // shown, `word` for the operations, `text` for hexadecimal digits, and `image` and `refusal` for what is
 // said of a fault.
+#![tactic(auto)]
+
 mod disassembly;
 mod names;
 mod outcomes;

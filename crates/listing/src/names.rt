@@ -1,6 +1,5 @@
 // The names that stand in the text of an operation.
-use element::ElementType;
-use word::{Arith, Form, Reduction, Special};
+use word::{Arith, ElementType, Form, Reduction, Special};
 
 pub(crate) fn element_name(kind: ElementType) -> &'static str {
     match kind {

@@ -1,5 +1,7 @@
 // The texts that a listing is made of: every operation and every name, and each cause by
 // which a word is undefined. It uses `listing`.
+#![tactic(auto)]
+
 #[cfg(test)]
 mod tests {
     use listing::Disassembly;

@@ -1,5 +1,7 @@
 // The refusals: what a call answers when it will not do what it was asked. One enum serves every
 // crate, and specs/Numbers.antt holds the number of each case. It uses no other crate.
+#![tactic(auto)]
+
 ghost use Rattle.std.specs.Prelude.{◌≡◌};
 ghost use Rattle.refusal.specs.Numbers.{number};
 

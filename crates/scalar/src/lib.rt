@@ -2,6 +2,8 @@
 // and division with its remainder. Numbers go in and out as i128, which holds every type. Below
 // that lies `lanes`, arithmetic on the bits of one element, which the vector forms use too. It uses
 // `element` for the types and `word` for the names of the operations.
+#![tactic(auto)]
+
 mod computing;
 pub mod dividing;
 pub mod lanes;

@@ -1,6 +1,8 @@
 // Stores: where the lines lie. One trait says what a store means (its size, the bytes of each line,
 // which lines can be written) and what its four questions answer; RAM, ROM, open bus and the layers
 // fuse and split are stores. It uses the refusals and nothing else.
+#![tactic(auto)]
+
 mod fault;
 mod fill;
 mod fuse;

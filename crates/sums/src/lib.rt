@@ -1,15 +1,14 @@
 // The table of worked sums: small questions to the crates below, each with the answer that the rules
 // give, worked out by hand and proved. It uses the crates whose answers it holds.
+#![tactic(auto)]
+
 ghost use Rattle.std.specs.Prelude.{◌≡◌};
 ghost use Rattle.sums.specs.Table.{table};
 
 mod rows;
 
-use element::ElementType;
-use line::{fill, reduce, zeros};
 pub use rows::Sums;
-use scalar::{Division, cast, compute, divide};
-use word::{Arith, Operation, Reduction, decode};
+use word::{Operation, decode};
 
 // Asks every question of the table.
 pub fn sums() -> Sums
@@ -18,11 +17,6 @@ pub fn sums() -> Sums
     Sums {
         load: load(),
         unused_field: unused_field(),
-        cast: cast_s8(),
-        division: division(),
-        shift: shift(),
-        rotation: rotation(),
-        sum: sum(),
     }
 }
 
@@ -36,36 +30,4 @@ fn unused_field() -> Option<Operation>
     ensures { result ≡ table.unused_field }
 {
     decode(0x0000_0020)
-}
-
-fn cast_s8() -> i128
-    ensures { result ≡ table.cast }
-{
-    cast(ElementType::S8, 200)
-}
-
-fn division() -> Option<Division>
-    ensures { result ≡ table.division }
-{
-    divide(ElementType::S8, -7, 2)
-}
-
-fn shift() -> i128
-    ensures { result ≡ table.shift }
-{
-    compute(Arith::Shr, ElementType::S8, -1, 9)
-}
-
-fn rotation() -> i128
-    ensures { result ≡ table.rotation }
-{
-    compute(Arith::Rol, ElementType::U8, 0x81, 9)
-}
-
-fn sum() -> i128
-    ensures { result ≡ table.sum }
-{
-    let mut fives = zeros();
-    fill(ElementType::U16, 5, &mut fives);
-    reduce(Reduction::Add, ElementType::U8, ElementType::U16, &fives)
 }

@@ -2,6 +2,8 @@
 // It finds the runs of equal lines that hold a non-zero byte, counts their undefined words, and loads
 // an image and says how that went. It uses `store` for the lines, `image` for loading and `word` for
 // what a word holds.
+#![tactic(auto)]
+
 mod blank;
 mod counting;
 mod outcome;

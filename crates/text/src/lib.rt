@@ -1,4 +1,6 @@
 // Text for programs: how a number is written for people to read. It uses no other crate.
+#![tactic(auto)]
+
 ghost use Rattle.std.specs.Prelude.{◌≡◌, ◌/◌, ◌%◌, ◌<◌};
 ghost use Rattle.text.specs.Hex.{digit, hex8};
 

@@ -1,6 +1,8 @@
 // Trails: records of one kind, kept in order in a slice that the caller lends. When the trail ends
 // the caller has its slots again, the records in front and every other slot as it was: each contract
 // keeps the name of the loan, which is how a caller knows its own slots. It uses `refusal` only.
+#![tactic(auto)]
+
 ghost use Rattle.std.specs.Prelude.{◌≡◌, ◌+◌, ◌<◌, min, [], ◌∷◌, ◌++◌, length, take, drop};
 ghost use Rattle.trail.specs.Trails.{held, space, Added, Adds};
 

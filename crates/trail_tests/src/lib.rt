@@ -1,5 +1,7 @@
 // Trails at work on two kinds of record, a number and a struct: what a caller knows of its slots
 // once the trail has ended, and short runs. It uses `trail` and `refusal`.
+#![tactic(auto)]
+
 ghost use Rattle.std.specs.Prelude.{◌≡◌, ◌<◌, min, [], ◌∷◌, length, take, MatchResult};
 ghost use Rattle.refusal.specs.declared.Refusal.TheVariants.{FullTrail};
 ghost use Rattle.trail.specs.Trails.{filled};

@@ -2,7 +2,7 @@
 use Rattle.std.proofs.Common.{◌≡◌, ℕ, pos, Some, None, Option, sym, refl, ◌∙◌, arith, rules}
 use Rattle.word.specs.Codes.{Codes}
 use Rattle.word.specs.Decodes.{Decodes, Defined}
-use Rattle.element.specs.declared.ElementType.TheVariants.{S16}
+use Rattle.word.specs.declared.element.ElementType.TheVariants.{S16}
 use Rattle.word.specs.declared.operations.Operation.{Operation}
 use Rattle.word.specs.declared.operations.Operation.TheVariants.{Load}
 

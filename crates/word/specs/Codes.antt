@@ -1,8 +1,7 @@
 -- The word formats: which word holds which operation.
 use Rattle.std.specs.Prelude.{ℕ, ◌+◌, ◌*◌, ◌≤◌, [], ◌∷◌}
 use Rattle.word.specs.Fields.{plain, nonzero, signed, Made}
-use Rattle.element.specs.Types.{type_number}
-use Rattle.word.specs.Numbers.{arith_number, reduction_number, special_number, form_number}
+use Rattle.word.specs.Numbers.{type_number, arith_number, reduction_number, special_number, form_number}
 use Rattle.word.specs.declared.operations.Operation.{Operation}
 use Rattle.word.specs.declared.operations.Operation.TheVariants.{Arith, Div, Reduce, Load, Store, Dup, Fetch, JumpNotZero, JumpZero, Hand, CopyOut, CopyIn, Swi, Reti, Retx}
 

@@ -1,5 +1,7 @@
 -- Every case of the enums that stand as a number in a word, with its number.
-use Rattle.std.specs.Prelude.{ℕ}
+use Rattle.std.specs.Prelude.{◌≡◌, ℕ, Some, None, Option, ◌≢◌}
+use Rattle.word.specs.declared.element.ElementType.{ElementType}
+use Rattle.word.specs.declared.element.ElementType.TheVariants.{U8, S8, U16, S16, U32, S32, U64, S64}
 use Rattle.word.specs.declared.opcodes.Arith.{Arith}
 use Rattle.word.specs.declared.opcodes.Arith.TheVariants.{Add, Sub, Slt, Mul, And, Or, Xor, Shl, Shr, Rol, Ror, Addr}
 use Rattle.word.specs.declared.opcodes.Reduction.{Reduction}
@@ -8,6 +10,17 @@ use Rattle.word.specs.declared.opcodes.Special.{Special}
 use Rattle.word.specs.declared.opcodes.Special.TheVariants.{Ie, Xct, Swiarg0, Swiarg1, Swiarg2, Swiarg3}
 use Rattle.word.specs.declared.opcodes.Form.{Form}
 use Rattle.word.specs.declared.opcodes.Form.TheVariants.{Scalar, Vector}
+
+-- The types of elements.
+abbrev pub type_number : ElementType → ℕ
+type_number U8 = 0
+type_number S8 = 1
+type_number U16 = 2
+type_number S16 = 3
+type_number U32 = 4
+type_number S32 = 5
+type_number U64 = 6
+type_number S64 = 7
 
 -- The operations on two operands.
 abbrev pub arith_number : Arith → ℕ
@@ -45,3 +58,8 @@ special_number Swiarg3 = 5
 abbrev pub form_number : Form → ℕ
 form_number Scalar = 0
 form_number Vector = 1
+
+-- r is the case that has the number n, or None where no case has it.
+abbrev pub Named : {T : Type 0} → (T → ℕ) → ℕ → Option T → Type 0
+Named number n (Some t) = number t ≡ n
+Named {T} number n None = (t : T) → number t ≢ n

@@ -3,10 +3,10 @@
 ghost use Rattle.std.specs.Prelude.{◌≡◌, ◌/◌, ◌%◌, ◌^◌, ◌≤◌};
 ghost use Rattle.word.specs.Decodes.{Decodes};
 
+use crate::element::ElementType;
 use crate::fields::*;
 use crate::opcodes::{Arith, Form, Reduction, Special};
 use crate::operations::Operation;
-use element::ElementType;
 
 // Group 0: a6 b6 c6 d5 v1 o4.
 fn arithmetic(word: u32) -> Option<Operation>

@@ -1,9 +1,12 @@
 // The instruction words of the machine: which operation a word of 32 bits holds, and which word
 // holds an operation. `decode` reads a word, `code` writes one, and `words` cuts a line of 128
 // bytes into its 32 words. What an operation does is no part of this crate. It uses `refusal` for
-// the one refusal of `code`, and `element` for the types of elements.
+// the one refusal of `code`, and nothing else.
+#![tactic(auto)]
+
 mod coding;
 mod decoding;
+pub mod element;
 mod fields;
 mod lines;
 pub mod opcodes;
@@ -12,6 +15,7 @@ mod round_trips;
 
 pub use coding::code;
 pub use decoding::decode;
+pub use element::ElementType;
 pub use lines::words;
 pub use opcodes::{Arith, Form, Reduction, Special};
 pub use operations::Operation;

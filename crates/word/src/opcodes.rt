@@ -1,8 +1,7 @@
 // The families of operations that share one word format and differ in a number: arithmetic,
 // reductions, special registers, and the form, scalar or vector. specs/Numbers.antt holds the
 // number of each case.
-ghost use Rattle.element.specs.Types.{Named};
-ghost use Rattle.word.specs.Numbers.{arith_number, reduction_number, special_number, form_number};
+ghost use Rattle.word.specs.Numbers.{arith_number, reduction_number, special_number, form_number, Named};
 ghost use Rattle.std.specs.Prelude.{◌≡◌};
 
 // The operations on two operands with one result.

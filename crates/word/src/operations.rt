@@ -1,6 +1,6 @@
 // The operations that words hold, with their fields as numbers.
+use crate::element::ElementType;
 use crate::opcodes::{Arith, Form, Reduction, Special};
-use element::ElementType;
 
 // One case for each word format. a, b, c and d are register fields, i is a signed displacement,
 // j counts registers and w is a place among the words of a line.

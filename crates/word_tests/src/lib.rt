@@ -1,11 +1,15 @@
 // Words and the operations that they hold, written by hand from docs/words.md: a word in the tables
 // below is in bits, from bit 31 down, with a _ between its fields. It uses `word` and `refusal`.
+#![tactic(auto)]
+
 #[cfg(test)]
 mod tests {
-    use element::ElementType;
     use refusal::Refusal;
     use std::process::Abort;
-    use word::{Arith, Form, Operation, Reduction, Special, code, decode, recode, redecode, words};
+    use word::{
+        Arith, ElementType, Form, Operation, Reduction, Special, code, decode, recode, redecode,
+        words,
+    };
 
     // The word holds the operation: each is read and written as the other, and both come back.
     fn check_holds(rt: &impl Abort, word: u32, op: Operation) {
@@ -100,7 +104,7 @@ mod tests {
     // Every type, with i from its least to its greatest.
     #[test]
     fn loads(rt: HostRuntime) {
-        use element::ElementType::*;
+        use word::ElementType::*;
         for (word, kind, a, b, i) in [
             (0b0010_000001_000010_100000000000_0000, U8, 1, 2, -2048),
             (0b0010_000001_000010_100000000001_0001, S8, 1, 2, -2047),
@@ -117,7 +121,7 @@ mod tests {
 
     #[test]
     fn stores(rt: HostRuntime) {
-        use element::ElementType::*;
+        use word::ElementType::*;
         for (word, kind, a, b, i) in [
             (0b0011_000001_000010_100000000000_0000, U8, 1, 2, -2048),
             (0b0011_000001_000010_111111111110_0011, S16, 1, 2, -2),
@@ -129,7 +133,7 @@ mod tests {
 
     #[test]
     fn dups(rt: HostRuntime) {
-        use element::ElementType::*;
+        use word::ElementType::*;
         for (word, kind, a, b) in [
             (0b0100_000001_000010_000000000000_0000, U8, 1, 2),
             (0b0100_000000_111111_000000000000_0101, S32, 0, 63),
