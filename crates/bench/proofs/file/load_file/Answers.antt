@@ -14,4 +14,4 @@ taken m after bytes (Refused fault) t = (bytes, t)
 
 pub returns-in-Ok : goal.returns-in-Ok
 returns-in-Ok g c =
-    taken (g.S.Store.meaning c.args.store.now) (g.S.Store.meaning c.take-front.new.store) (take (c.in-Ok.count - 0) c.deref.result.now) c.take-front.result c.take-front.ensures
+    taken (g.S.Store.meaning c.args.store.now) (g.S.Store.meaning c.take_front.new.store) (take (c.in-Ok.count - 0) c.deref.result.now) c.take_front.result c.take_front.ensures

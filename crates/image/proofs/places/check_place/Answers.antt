@@ -14,17 +14,17 @@ misfit m a b n low high fixed before =
 fits : (m : Meaning) (a : ℕ) (b : List ℕ) (n : ℕ) → past_line a b ≤ n → ((k : ℕ) → a / 128 ≤ k → k < n → m.canwrite k ≡ true) → FitsIn m a b
 fits m a b n high before i h = let p : line_at a i < past_line a b = below_past a b i h in before (line_at a i) (omega arith) (omega arith)
 
-pub returns-in-err-admit : goal.returns-in-err-admit
-returns-in-err-admit g c =
+pub returns-in_err-admit : goal.returns-in_err-admit
+returns-in_err-admit g c =
     let m = g.S.Store.meaning c.args.store.now in
     let p = err_from_is_err_and c.from-residual.result c.from-residual.ensures.1 in
-    let shown = c.in-err-admit.ensures in
+    let shown = c.in_err-admit.ensures in
     let misfits = misfit m c.args.place.address c.args.place.bytes.now c.loop-line.line (omega arith) (omega arith) shown.0 c.loop-line.invariant in
     rw (p.1, p.2) (rw shown.1 (misfits, refl))
 
 pub loop-line-preserved : goal.loop-line-preserved
 loop-line-preserved g c k low high =
-    ⊎_elim (λ e. rw e c.in-ok-admit.ensures) (λ e. c.loop-line.invariant k low (omega arith)) (cases_eq k c.loop-line.line)
+    ⊎_elim (λ e. rw e c.in_ok-admit.ensures) (λ e. c.loop-line.invariant k low (omega arith)) (cases_eq k c.loop-line.line)
 
 pub returns : goal.returns
 returns g c = fits (g.S.Store.meaning c.args.store.now) c.args.place.address c.args.place.bytes.now c.loop-line.line (omega arith) c.loop-line.invariant

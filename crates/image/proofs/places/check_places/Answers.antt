@@ -21,15 +21,15 @@ pub loop-place-init : goal.loop-place-init
 loop-place-init g c =
     (omega arith, unchecked_all (g.S.Store.meaning c.args.store.now) c.args.image.now c.requires.0 c.requires.1)
 
-pub returns-in-err-locate : goal.returns-in-err-locate
-returns-in-err-locate g c =
+pub returns-in_err-locate : goal.returns-in_err-locate
+returns-in_err-locate g c =
     let m = g.S.Store.meaning c.args.store.now in
     let p = err_from_is_err_and c.from-residual.result c.from-residual.ensures.1 in
     let stands = c.in-Some.ensures in
     let a = c.in-Some.place.address in
     let b = c.in-Some.place.bytes.now in
-    let f = c.in-err-locate.field-0.0 in
-    let known = located_err (PlaceChecks m a b) c.check-place.result c.loop-place.at f c.check-place.ensures (sym c.locate.ensures ∙ c.in-err-locate.was) in
+    let f = c.in_err-locate.field-0.0 in
+    let known = located_err (PlaceChecks m a b) c.check_place.result c.loop-place.at f c.check_place.ensures (sym c.locate.ensures ∙ c.in_err-locate.was) in
     rw (p.1, p.2) (misplaced m c.args.image.now c.loop-place.at a b f.at f.cause c.loop-place.invariant.1 stands.0 known.0 known.1)
 
 pub loop-place-preserved : goal.loop-place-preserved
@@ -38,7 +38,7 @@ loop-place-preserved g c =
     let stands = c.in-Some.ensures in
     let a = c.in-Some.place.address in
     let b = c.in-Some.place.bytes.now in
-    let fits = located_ok (PlaceChecks m a b) c.check-place.result c.loop-place.at c.in-ok-locate.field-0 c.check-place.ensures (sym c.locate.ensures ∙ c.in-ok-locate.was) in
+    let fits = located_ok (PlaceChecks m a b) c.check_place.result c.loop-place.at c.in_ok-locate.field-0 c.check_place.ensures (sym c.locate.ensures ∙ c.in_ok-locate.was) in
     (stands.2, unchecked_more m c.args.image.now c.loop-place.at c.loop-place.invariant.1 a b stands.0 fits)
 
 pub returns : goal.returns

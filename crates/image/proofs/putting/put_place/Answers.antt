@@ -9,8 +9,8 @@ pub loop-line-init : goal.loop-line-init
 loop-line-init g c =
     sym (put_start (g.S.Store.meaning c.args.store.now) c.args.place.address c.args.place.bytes.now (g.S.Store.sound c.args.store.now) c.requires.1)
 
-pub put-line-requires : goal.put-line-requires
-put-line-requires g c =
+pub put_line-requires : goal.put_line-requires
+put_line-requires g c =
     let m = g.S.Store.meaning c.args.store.now in
     let a = c.args.place.address in
     let b = c.args.place.bytes.now in
@@ -24,7 +24,7 @@ loop-line-preserved g c =
     let a = c.args.place.address in
     let b = c.args.place.bytes.now in
     let n = c.loop-line.line in
-    c.put-line.ensures.1
+    c.put_line.ensures.1
     ∙ ap (λ m. with_line m n (spliced (128 * n) (m.line n) a b)) c.loop-line.invariant
     ∙ put_more (g.S.Store.meaning c.args.store.now) a b n
 

@@ -8,7 +8,7 @@ pub returns-then-bytes-lt-HEADER : goal.returns-then-bytes-lt-HEADER
 returns-then-bytes-lt-HEADER c = front_cut c.args.bytes.now (omega arith)
 
 pub returns-in-1 : goal.returns-in-1
-returns-in-1 c = rw (front_is_place c.args.bytes.now (omega arith) (omega arith)) c.first-place.ensures
+returns-in-1 c = rw (front_is_place c.args.bytes.now (omega arith) (omega arith)) c.first_place.ensures
 
 pub returns-in-2 : goal.returns-in-2
 returns-in-2 c = front_ends c.args.bytes.now (omega arith) (omega arith) (omega arith)

@@ -17,5 +17,5 @@ shows_located f (Err (Line e)) at s = absurd s
 
 pub returns : goal.returns
 returns c =
-    let shown = shows_located (front (take (length c.args.image.now - c.args.at) (drop c.args.at c.args.image.now))) c.first-record.result c.args.at c.first-record.ensures in
+    let shown = shows_located (front (take (length c.args.image.now - c.args.at) (drop c.args.at c.args.image.now))) c.first_record.result c.args.at c.first_record.ensures in
     rw c.locate.ensures (rw take_rest at shown)

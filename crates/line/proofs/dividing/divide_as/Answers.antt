@@ -15,10 +15,10 @@ loop-k-preserved g c =
     let y = c.args.y.now in
     let k = c.loop-k.k in
     let n = c.count-k-end.result in (
-      made_more t (λ j. quotient t (element t x j) (element t y j)) c.loop-k.quotients c.divide-at.new.quotients k n (residue (bits t) (cut_quotient (element t x k) (element t y k)))
-          c.count-k-end.ensures c.loop-k-test.true c.loop-k.invariant.0 (residue-applied (λ m. cut_quotient) t x y k) c.divide-at.ensures.quotients,
-      made_more t (λ j. remainder t (element t x j) (element t y j)) c.loop-k.remainders c.divide-at.new.remainders k n (residue (bits t) (cut_remainder (element t x k) (element t y k)))
-          c.count-k-end.ensures c.loop-k-test.true c.loop-k.invariant.1 (residue-remainder t x y k) c.divide-at.ensures.remainders,
+      made_more t (λ j. quotient t (element t x j) (element t y j)) c.loop-k.quotients c.divide_at.new.quotients k n (residue (bits t) (cut_quotient (element t x k) (element t y k)))
+          c.count-k-end.ensures c.loop-k-test.true c.loop-k.invariant.0 (residue-applied (λ m. cut_quotient) t x y k) c.divide_at.ensures.quotients,
+      made_more t (λ j. remainder t (element t x j) (element t y j)) c.loop-k.remainders c.divide_at.new.remainders k n (residue (bits t) (cut_remainder (element t x k) (element t y k)))
+          c.count-k-end.ensures c.loop-k-test.true c.loop-k.invariant.1 (residue-remainder t x y k) c.divide_at.ensures.remainders,
     )
 
 pub returns : goal.returns

@@ -12,7 +12,7 @@ unfolding somewhere
 loop-k-preserved g c =
     let k = c.loop-k.k in
     let p : ℕ → Bool = λ j. eqb (nat_abs (element g.T.Kind.kind c.args.line.now j)) 0 in
-    c.or-zero-at-found.ensures ∙ ap (λ b. b || p k) c.loop-k.invariant ∙ ap (somewhere p) (sym (add-one k))
+    c.or_zero_at-found.ensures ∙ ap (λ b. b || p k) c.loop-k.invariant ∙ ap (somewhere p) (sym (add-one k))
 
 pub returns : goal.returns
 returns g c =

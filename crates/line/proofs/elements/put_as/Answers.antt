@@ -13,12 +13,12 @@ returns g c =
     let t = g.T.Kind.kind in
     let z = c.args.z in
     let line = c.args.line.now in
-    let k = c.number-at.result in
-    let at = c.number-at.ensures.0 in
+    let k = c.number_at.result in
+    let at = c.number_at.ensures.0 in
     let is : c.lane.result ≡ residue (bits t) z = c.lane.ensures.residue ∙ ap (residue (bits c.kind.result)) (to_z-of_z w128 z c.ranges.z) ∙ ap (λ u. residue (bits u) z) c.kind.ensures in
-    let made : c.set-lane.new.line ≡ put (width t) line k z = c.set-lane.ensures ∙ ap (λ v. splice line (k * width t) (bytes (width t) v)) is in
-    let inside : k * width t ≤ length line = omega (arith, within t k c.number-at.ensures.1, c.told-line) in
+    let made : c.set_lane.new.line ≡ put (width t) line k z = c.set_lane.ensures ∙ ap (λ v. splice line (k * width t) (bytes (width t) v)) is in
+    let inside : k * width t ≤ length line = omega (arith, within t k c.number_at.ensures.1, c.told-line) in
     record {
       written = made ∙ ap (λ j. put (width t) line j z) at;
-      read = ap (element t c.set-lane.new.line) (sym at) ∙ ap (λ l. element t l k) made ∙ element-put t z line k inside;
+      read = ap (element t c.set_lane.new.line) (sym at) ∙ ap (λ l. element t l k) made ∙ element-put t z line k inside;
     }

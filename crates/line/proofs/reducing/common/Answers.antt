@@ -13,7 +13,7 @@ returns c =
     let t = c.args.to in
     let s = c.args.from in
     let f = element s c.args.line.now in
-    to_z-of_z w128 c.join.result record { sfits = c.join.type-inv }
+    to_z-of_z w128 c.join.result record { sfits = c.join.type_inv }
     ∙ c.join.ensures
     ∙ ap (λ a. gathered (compute And) t f a (count s)) (all_ones t)
     ∙ gather_common t f (count s)

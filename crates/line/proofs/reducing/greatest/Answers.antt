@@ -12,7 +12,7 @@ returns c =
     let t = c.args.to in
     let s = c.args.from in
     let f = element s c.args.line.now in
-    to_z-of_z w128 c.join.result record { sfits = c.join.type-inv }
+    to_z-of_z w128 c.join.result record { sfits = c.join.type_inv }
     ∙ c.join.ensures
-    ∙ ap (λ a. gathered (λ m. int_max) t f a (count s)) c.first-lane.ensures
+    ∙ ap (λ a. gathered (λ m. int_max) t f a (count s)) c.first_lane.ensures
     ∙ gather_greatest t f (count s)

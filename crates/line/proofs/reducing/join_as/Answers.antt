@@ -17,7 +17,7 @@ loop-k-preserved g c =
     let make = g.O.Operation.make in
     let k = c.loop-k.k in
     let f = element g.S.Kind.kind c.args.line.now in
-    ap (λ m. cast t (pos m)) c.join-at-all.ensures
+    ap (λ m. cast t (pos m)) c.join_at-all.ensures
     ∙ cast-residue t (make (bits t) (cast t (pos c.loop-k.all)) (cast t (f k)))
     ∙ ap (λ a. cast t (make (bits t) a (cast t (f k)))) c.loop-k.invariant
     ∙ ap (gathered make t f (cast t (pos c.args.first))) (sym (add-one k))

@@ -10,6 +10,6 @@ returns c =
     let t = c.args.to in
     let s = c.args.from in
     let f = element s c.args.line.now in
-    to_z-of_z w128 c.join.result record { sfits = c.join.type-inv }
+    to_z-of_z w128 c.join.result record { sfits = c.join.type_inv }
     ∙ c.join.ensures
     ∙ gather_sum t f (count s)

@@ -16,8 +16,8 @@ loop-k-preserved g c =
     let x = c.args.x.now in
     let y = c.args.y.now in
     let k = c.loop-k.k in
-    made_more t (λ j. applied make t (element t x j) (element t y j)) c.loop-k.made c.apply-at.new.out k c.count-k-end.result (residue (bits t) (make (bits t) (element t x k) (element t y k)))
-    c.count-k-end.ensures c.loop-k-test.true c.loop-k.invariant (residue-applied make t x y k) c.apply-at.ensures
+    made_more t (λ j. applied make t (element t x j) (element t y j)) c.loop-k.made c.apply_at.new.out k c.count-k-end.result (residue (bits t) (make (bits t) (element t x k) (element t y k)))
+    c.count-k-end.ensures c.loop-k-test.true c.loop-k.invariant (residue-applied make t x y k) c.apply_at.ensures
 
 pub returns : goal.returns
 returns g c =

@@ -13,4 +13,4 @@ returns g c =
     let t = g.T.Kind.kind in
     let z = c.args.z in
     let is : c.lane.result ≡ residue (bits t) z = c.lane.ensures.residue ∙ ap (residue (bits c.kind.result)) (to_z-of_z w128 z c.ranges.z) ∙ ap (λ u. residue (bits u) z) c.kind.ensures in
-    c.fill-lanes.ensures ∙ row_same (width t) (λ j. pos c.lane.result) (λ j. z) (count t) (λ k h. ap (λ v. residue (bits t) (pos v)) is ∙ residue-residue (bits t) z)
+    c.fill_lanes.ensures ∙ row_same (width t) (λ j. pos c.lane.result) (λ j. z) (count t) (λ k h. ap (λ v. residue (bits t) (pos v)) is ∙ residue-residue (bits t) z)

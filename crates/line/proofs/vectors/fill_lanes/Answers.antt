@@ -13,7 +13,7 @@ loop-k-preserved g c =
     let t = g.T.Kind.kind in
     let v = c.args.v in
     let is : c.low.result ≡ residue (bits t) (pos v) = c.low.ensures.residue ∙ ap (λ u. residue (bits u) (cast u (pos v))) c.kind.ensures ∙ residue-cast t (pos v) in
-    made_more t (λ j. pos v) c.loop-k.out c.set-lane.new.line c.loop-k.k c.count-k-end.result c.low.result c.count-k-end.ensures c.loop-k-test.true c.loop-k.invariant is c.set-lane.ensures
+    made_more t (λ j. pos v) c.loop-k.out c.set_lane.new.line c.loop-k.k c.count-k-end.result c.low.result c.count-k-end.ensures c.loop-k-test.true c.loop-k.invariant is c.set_lane.ensures
 
 pub returns : goal.returns
 returns g c =

@@ -12,7 +12,7 @@ returns g c =
     let x = c.args.x in
     let y = c.args.y in
     let make = g.O.Operation.make in
-    to_z-of_z w128 c.value.result record { sfits = c.value.type-inv }
+    to_z-of_z w128 c.value.result record { sfits = c.value.type_inv }
     ∙ c.value.ensures
     ∙ ap (λ n. cast t (pos n)) c.apply.ensures
     ∙ cast-residue t (make (bits t) (cast t (pos c.lane.result)) (cast t (pos c.lane-2.result)))

@@ -6,9 +6,9 @@ use Rattle.scalar.proofs.Machine.{lane_negative}
 use Rattle.scalar.proofs.dividing.is_negative.Goals as goal
 use Rattle.std.proofs.lemmas.Int.{to_z-of_z}
 
-pub returns-then-is-signed : goal.returns-then-is-signed
-returns-then-is-signed c =
-    ap (λ z. lt_z z (pos 0)) (to_z-of_z w64 c.extend.result record { sfits = c.extend.type-inv }) ∙ lane_negative c.extend.result ∙ ap negative (c.extend.ensures (sym c.if-is-signed.ensures))
+pub returns-then-is_signed : goal.returns-then-is_signed
+returns-then-is_signed c =
+    ap (λ z. lt_z z (pos 0)) (to_z-of_z w64 c.extend.result record { sfits = c.extend.type_inv }) ∙ lane_negative c.extend.result ∙ ap negative (c.extend.ensures (sym c.if-is_signed.ensures))
 
-pub returns-else-is-signed : goal.returns-else-is-signed
-returns-else-is-signed c = ap negative (sym (lane_unsigned c.args.kind c.args.x (sym c.if-is-signed.ensures)))
+pub returns-else-is_signed : goal.returns-else-is_signed
+returns-else-is_signed c = ap negative (sym (lane_unsigned c.args.kind c.args.x (sym c.if-is_signed.ensures)))

@@ -9,4 +9,4 @@ use Rattle.std.proofs.lemmas.Int.{to_z-of_z}
 pub returns : goal.returns
 returns c =
     let z = c.args.z in
-    ap (λ n. bit_and n (2 ^ 64 - 1)) (c.cast-unsigned.ensures ∙ ap (of_z w128) (to_z-of_z w128 z c.ranges.z)) ∙ and_mask (of_z w128 z) 64 ∙ residue-bits w128 64 z (omega arith) c.ranges.z
+    ap (λ n. bit_and n (2 ^ 64 - 1)) (c.cast_unsigned.ensures ∙ ap (of_z w128) (to_z-of_z w128 z c.ranges.z)) ∙ and_mask (of_z w128 z) 64 ∙ residue-bits w128 64 z (omega arith) c.ranges.z

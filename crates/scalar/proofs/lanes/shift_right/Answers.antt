@@ -9,19 +9,19 @@ use Rattle.scalar.proofs.Machine.{lane_shr_signed, lane_shr_unsigned, lane_shr_p
 use Rattle.scalar.proofs.lanes.shift_right.Goals as goal
 use Rattle.std.proofs.lemmas.Int.{to_z-of_z}
 
-pub returns-then-is-signed : goal.returns-then-is-signed
-returns-then-is-signed c =
+pub returns-then-is_signed : goal.returns-then-is_signed
+returns-then-is_signed c =
     let t = c.args.kind in
     let n = bits t in
     let e = c.extend.result in
     let k = c.min.result in
-    let is = sym c.if-is-signed.ensures in
+    let is = sym c.if-is_signed.ensures in
     let z = shr_z e (2 ^ k) in
-    let fits : SFits w64 e = record { sfits = c.extend.type-inv } in
+    let fits : SFits w64 e = record { sfits = c.extend.type_inv } in
     let shifted : SFits w64 z = record { sfits = omega (arith, mag_shr e (2 ^ k), fits.sfits) } in
     let count : k ≡ min c.args.count (n - 1) = c.min.ensures ∙ ap (λ b. min c.args.count (b - 1)) c.bits-bits.ensures in
     c.low.ensures.bits
-    ∙ ap (λ m. m % 2 ^ n) (c.cast-unsigned.ensures ∙ ap (λ y. of_z w64 (to_z w64 (of_z w64 (shr_z y (2 ^ k))))) (to_z-of_z w64 e fits) ∙ ap (of_z w64) (to_z-of_z w64 z shifted))
+    ∙ ap (λ m. m % 2 ^ n) (c.cast_unsigned.ensures ∙ ap (λ y. of_z w64 (to_z w64 (of_z w64 (shr_z y (2 ^ k))))) (to_z-of_z w64 e fits) ∙ ap (of_z w64) (to_z-of_z w64 z shifted))
     ∙ residue-bits w64 n z (bits_high t) shifted
     ∙ ap₂ (λ y j. residue n (shr_z y (2 ^ j))) (c.extend.ensures is) count
     ∙ ap (residue n) (lane_shr_signed t (cast t (pos c.args.x)) c.args.count (cast_range t (pos c.args.x) is))
@@ -32,10 +32,10 @@ returns-then-count-bits c =
     let m = c.low-then-count-bits.result in
     let few : c.args.count < bits t = omega (arith, c.bits-bits.ensures) in
     let small : m < 2 ^ bits t = omega (arith, c.low-then-count-bits.ensures.bits, mod-lt c.args.x (pow_pos (bits t))) in
-    lane_shr_unsigned t m c.args.count small few ∙ ap (λ z. residue (bits t) (shift_right (bits t) z c.args.count)) (c.low-then-count-bits.ensures.unsigned (sym c.if-is-signed.ensures))
+    lane_shr_unsigned t m c.args.count small few ∙ ap (λ z. residue (bits t) (shift_right (bits t) z c.args.count)) (c.low-then-count-bits.ensures.unsigned (sym c.if-is_signed.ensures))
 
 pub returns-else-count-bits : goal.returns-else-count-bits
 returns-else-count-bits c =
     let t = c.args.kind in
     let many : bits t ≤ c.args.count = omega (arith, c.bits-bits.ensures) in
-    lane_shr_past t (c.args.x % 2 ^ bits t) c.args.count many ∙ ap (λ z. residue (bits t) (shift_right (bits t) z c.args.count)) (sym (lane_unsigned t c.args.x (sym c.if-is-signed.ensures)))
+    lane_shr_past t (c.args.x % 2 ^ bits t) c.args.count many ∙ ap (λ z. residue (bits t) (shift_right (bits t) z c.args.count)) (sym (lane_unsigned t c.args.x (sym c.if-is_signed.ensures)))

@@ -5,7 +5,7 @@ use Rattle.word.specs.Decodes.{Decodes, Defined}
 use Rattle.word.specs.declared.operations.Operation.{Operation}
 use Rattle.survey.specs.Counts.{UndefinedAmong, nil, defined, undefined}
 use Rattle.survey.proofs.counting.undefined_among.Goals as goal
-use Rattle.survey.proofs.counting.undefined_among.Goals.{then-is-none, else-is-none}
+use Rattle.survey.proofs.counting.undefined_among.Goals.{then-is_none, else-is_none}
 
 -- Nothing is found in a word exactly when it is undefined.
 is_undefined : (w : ℕ) (r : Option Operation) → Decodes w r → is_some r ≡ false → Defined w → ⊥
@@ -27,16 +27,16 @@ module _ (ws : List ℕ) (i count : ℕ) (h : i < length ws) (inv : (n : ℕ) �
 pub loop-word-preserved : goal.loop-word-preserved
 loop-word-preserved c =
     let h : c.loop-word.word-index < length c.args.words.now = omega arith in
-    elim c.if-is-none.branch [
-      | then-is-none w ↦ (
+    elim c.if-is_none.branch [
+      | then-is_none w ↦ (
         omega (arith, w.count-is),
         rw w.count-is (more_undefined c.args.words.now c.loop-word.word-index c.loop-word.count h c.loop-word.invariant.1
-            (is_undefined _ _ c.decode.ensures (c.is-none.ensures ∙ ap not w.if-is-none.true))),
+            (is_undefined _ _ c.decode.ensures (c.is_none.ensures ∙ ap not w.if-is_none.true))),
       )
-      | else-is-none w ↦ (
+      | else-is_none w ↦ (
         omega (arith, w.count-is),
         rw w.count-is (more_defined c.args.words.now c.loop-word.word-index c.loop-word.count h c.loop-word.invariant.1
-            (is_defined _ _ c.decode.ensures (c.is-none.ensures ∙ ap not w.if-is-none.false))),
+            (is_defined _ _ c.decode.ensures (c.is_none.ensures ∙ ap not w.if-is_none.false))),
       )
     ]
 

@@ -10,10 +10,10 @@ loop-run-preserved g c =
     let within : run.after ≤ m.size = next.0.lines.within next.0.there in
     let forward : run.first < run.after = next.0.lines.forward next.0.there in (
       within,
-      omega (arith, next.1, c.undefined-among-total.ensures.bound),
+      omega (arith, next.1, c.undefined_among-total.ensures.bound),
       λ n rest.
-          let e : c.loop-run.total + (c.undefined-among-total.result + n) ≡ (c.loop-run.total + c.undefined-among-total.result) + n = omega arith in
-          subst (UndefinedFrom m 0) e (c.loop-run.invariant.2 (c.undefined-among-total.result + n) (and_run next c.words.ensures c.undefined-among-total.ensures.counted rest)),
+          let e : c.loop-run.total + (c.undefined_among-total.result + n) ≡ (c.loop-run.total + c.undefined_among-total.result) + n = omega arith in
+          subst (UndefinedFrom m 0) e (c.loop-run.invariant.2 (c.undefined_among-total.result + n) (and_run next c.words.ensures c.undefined_among-total.ensures.counted rest)),
     )
 
 pub returns : goal.returns

@@ -17,4 +17,4 @@ turn xs i x (Err why) h read fine q p = search rules
 pub loop-i-preserved : goal.loop-i-preserved
 loop-i-preserved g c =
     turn c.args.records.now c.loop-i.i c.index-records-i.result c.add.result c.loop-i-test.true
-    c.index-records-i.is (sym c.if-is-err.ensures.value) c.add.ensures c.loop-i.invariant
+    c.index-records-i.is (sym c.if-is_err.ensures.value) c.add.ensures c.loop-i.invariant

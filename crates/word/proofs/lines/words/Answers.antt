@@ -7,5 +7,5 @@ loop-k-preserved c = (
   simp length-set c.loop-k.invariant.0,
   below_more _ _
       (λ j h. let ne : j ≢ c.loop-k.k = omega arith in rw get_or-set_other (c.loop-k.invariant.1 j h))
-      (let lt : c.loop-k.k < length c.loop-k.all = omega arith in rw get_or-set_same c.word-at.ensures),
+      (let lt : c.loop-k.k < length c.loop-k.all = omega arith in rw get_or-set_same c.word_at.ensures),
 )
