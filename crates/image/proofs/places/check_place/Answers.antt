@@ -17,7 +17,7 @@ fits m a b n high before i h = let p : line_at a i < past_line a b = below_past 
 pub returns-in_err-admit : goal.returns-in_err-admit
 returns-in_err-admit g c =
     let m = g.S.Store.meaning c.args.store.now in
-    let p = err_from_is_err_and c.from-residual.result c.from-residual.ensures.1 in
+    let p = err_from_is_err_and c.from_residual.result c.from_residual.ensures.1 in
     let shown = c.in_err-admit.ensures in
     let misfits = misfit m c.args.place.address c.args.place.bytes.now c.loop-line.line (omega arith) (omega arith) shown.0 c.loop-line.invariant in
     rw (p.1, p.2) (rw shown.1 (misfits, refl))

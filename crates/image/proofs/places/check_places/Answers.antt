@@ -24,7 +24,7 @@ loop-place-init g c =
 pub returns-in_err-locate : goal.returns-in_err-locate
 returns-in_err-locate g c =
     let m = g.S.Store.meaning c.args.store.now in
-    let p = err_from_is_err_and c.from-residual.result c.from-residual.ensures.1 in
+    let p = err_from_is_err_and c.from_residual.result c.from_residual.ensures.1 in
     let stands = c.in-Some.ensures in
     let a = c.in-Some.place.address in
     let b = c.in-Some.place.bytes.now in
@@ -43,4 +43,4 @@ loop-place-preserved g c =
 
 pub returns : goal.returns
 returns g c =
-    checked_all (g.S.Store.meaning c.args.store.now) c.args.image.now c.loop-place.at c.loop-place.invariant.1 c.in-default.ensures
+    checked_all (g.S.Store.meaning c.args.store.now) c.args.image.now c.loop-place.at c.loop-place.invariant.1 c.in_default.ensures

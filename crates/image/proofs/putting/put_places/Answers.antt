@@ -18,4 +18,4 @@ loop-place-preserved g c =
 
 pub returns : goal.returns
 returns g c =
-    written_all (g.S.Store.meaning c.args.store.now) c.args.image.now c.loop-place.at (g.S.Store.meaning c.loop-place.store) c.loop-place.invariant.1 c.in-default.ensures
+    written_all (g.S.Store.meaning c.args.store.now) c.args.image.now c.loop-place.at (g.S.Store.meaning c.loop-place.store) c.loop-place.invariant.1 c.in_default.ensures

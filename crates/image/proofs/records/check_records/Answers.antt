@@ -12,5 +12,5 @@ loop-next-preserved c =
 
 pub returns : goal.returns
 returns c =
-    let shown = rw c.in-default.is at c.in_ok-next.ensures in
+    let shown = rw c.in_default.is at c.in_ok-next.ensures in
     c.loop-next.invariant.2 [] (ended shown.0 shown.1)

@@ -13,7 +13,7 @@ ill_formed at x (Line l) bs e f = absurd f
 
 pub returns-in_err-place : goal.returns-in_err-place
 returns-in_err-place c =
-    let p = err_from_is_err_and c.from-residual.result c.from-residual.ensures.1 in
+    let p = err_from_is_err_and c.from_residual.result c.from_residual.ensures.1 in
     let shown = c.in_err-place.ensures in
     rw (p.1, p.2) (ill_formed c.args.at c.in_err-place.field-0.0.at c.in_err-place.field-0.0.cause (drop c.args.at c.args.image.now) shown.0 shown.1)
 

@@ -19,4 +19,4 @@ loop-run-preserved g c =
 pub returns : goal.returns
 returns g c =
     let e : c.loop-run.total + 0 ≡ c.loop-run.total = omega arith in
-    subst (UndefinedFrom (g.S.Store.meaning c.args.store.now) 0) e (c.loop-run.invariant.2 0 (no_more c.in-default.ensures))
+    subst (UndefinedFrom (g.S.Store.meaning c.args.store.now) 0) e (c.loop-run.invariant.2 0 (no_more c.in_default.ensures))
