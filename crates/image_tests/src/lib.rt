@@ -166,9 +166,9 @@ mod tests {
         let (loaded, bytes) = load(rt.alloc(), &[&PLACED, &last, &END])?;
         assert_eq!(rt; loaded, Ok(()));
         assert_eq!(rt; bytes[0], 9);
-        assert_eq!(rt; &bytes[1..255], &[7; 254]);
+        assert_eq!(rt; &bytes[1..255], [7; 254].as_slice());
         assert_eq!(rt; bytes[255], 8);
-        assert_eq!(rt; &bytes[256..300], &[7; 44]);
+        assert_eq!(rt; &bytes[256..300], [7; 44].as_slice());
         Ok(())
     }
 
@@ -192,9 +192,9 @@ mod tests {
         let mut bytes = [0xEE; 400];
         let mut ram = Ram::new(&mut bytes);
         assert_eq!(rt; answer(image::load(&mut ram, &image)), Ok(()));
-        assert_eq!(rt; &bytes[0..120], &[0xEE; 120]);
+        assert_eq!(rt; &bytes[0..120], [0xEE; 120].as_slice());
         assert_eq!(rt; &bytes[120..264], &image[10..154]);
-        assert_eq!(rt; &bytes[264..400], &[0xEE; 136]);
+        assert_eq!(rt; &bytes[264..400], [0xEE; 136].as_slice());
     }
 
     // 1, 2, 3 and 4 at 126, and then 9 at 127.
@@ -204,9 +204,9 @@ mod tests {
         let second = [5, 0, 0, 0, 1, 0, 127, 0, 0, 0, 9];
         let (loaded, bytes) = load(rt.alloc(), &[&first, &second, &END])?;
         assert_eq!(rt; loaded, Ok(()));
-        assert_eq!(rt; &bytes[0..126], &[7; 126]);
-        assert_eq!(rt; &bytes[126..130], &[1, 9, 3, 4]);
-        assert_eq!(rt; &bytes[130..300], &[7; 170]);
+        assert_eq!(rt; &bytes[0..126], [7; 126].as_slice());
+        assert_eq!(rt; &bytes[126..130], [1, 9, 3, 4].as_slice());
+        assert_eq!(rt; &bytes[130..300], [7; 170].as_slice());
         Ok(())
     }
 
@@ -219,9 +219,9 @@ mod tests {
         assert_eq!(rt; answer(load_bytes(&mut bytes, 2, &image)), Err((9, 11, 1)));
         assert_eq!(rt; bytes, [7; 400]);
         assert_eq!(rt; answer(load_bytes(&mut bytes, 1, &image)), Ok(()));
-        assert_eq!(rt; &bytes[0..255], &[7; 255]);
-        assert_eq!(rt; &bytes[255..257], &[8, 9]);
-        assert_eq!(rt; &bytes[257..400], &[7; 143]);
+        assert_eq!(rt; &bytes[0..255], [7; 255].as_slice());
+        assert_eq!(rt; &bytes[255..257], [8, 9].as_slice());
+        assert_eq!(rt; &bytes[257..400], [7; 143].as_slice());
         Ok(())
     }
 
@@ -233,9 +233,9 @@ mod tests {
         let image = joined(rt.alloc(), &[&empty, &free, &END])?;
         let mut bytes = [7; 400];
         assert_eq!(rt; answer(load_bytes(&mut bytes, 2, &image)), Ok(()));
-        assert_eq!(rt; &bytes[0..256], &[7; 256]);
-        assert_eq!(rt; &bytes[256..258], &[1, 2]);
-        assert_eq!(rt; &bytes[258..400], &[7; 142]);
+        assert_eq!(rt; &bytes[0..256], [7; 256].as_slice());
+        assert_eq!(rt; &bytes[256..258], [1, 2].as_slice());
+        assert_eq!(rt; &bytes[258..400], [7; 142].as_slice());
         assert_eq!(rt; answer(load_bytes(&mut bytes, 3, &image)), Err((9, 10, 2)));
         Ok(())
     }
@@ -268,8 +268,8 @@ mod tests {
             Err((9, 0, 33_554_432))
         );
         assert_eq!(rt; answer(image::load(&mut both, &one)), Ok(()));
-        assert_eq!(rt; &bytes[0..127], &[7; 127]);
+        assert_eq!(rt; &bytes[0..127], [7; 127].as_slice());
         assert_eq!(rt; bytes[127], 9);
-        assert_eq!(rt; &bytes[128..256], &[7; 128]);
+        assert_eq!(rt; &bytes[128..256], [7; 128].as_slice());
     }
 }

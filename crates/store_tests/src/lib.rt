@@ -77,9 +77,9 @@ mod tests {
         assert_eq!(rt; answer(ram.write(1, &counting())), Ok(()));
         assert_eq!(rt; answer(ram.write(2, &[9; 128])), Err((10, 2)));
         assert_eq!(rt; read(&ram, 1), (Ok(()), counting()));
-        assert_eq!(rt; &bytes[0..128], &[7; 128]);
-        assert_eq!(rt; &bytes[128..256], &counting());
-        assert_eq!(rt; &bytes[256..300], &[7; 44]);
+        assert_eq!(rt; &bytes[0..128], [7; 128].as_slice());
+        assert_eq!(rt; &bytes[128..256], counting().as_slice());
+        assert_eq!(rt; &bytes[256..300], [7; 44].as_slice());
     }
 
     #[test]
@@ -226,9 +226,9 @@ mod tests {
         assert_eq!(rt; answer(all.write(5, &[9; 128])), Err((11, 5)));
         assert_eq!(rt; answer(all.write(7, &[9; 128])), Err((10, 7)));
         assert_eq!(rt; read(&all, 1), (Ok(()), counting()));
-        assert_eq!(rt; &bytes[0..128], &[7; 128]);
-        assert_eq!(rt; &bytes[128..256], &counting());
-        assert_eq!(rt; &bytes[256..300], &[7; 44]);
+        assert_eq!(rt; &bytes[0..128], [7; 128].as_slice());
+        assert_eq!(rt; &bytes[128..256], counting().as_slice());
+        assert_eq!(rt; &bytes[256..300], [7; 44].as_slice());
     }
 
     // RAM above ROM: what is written to line 3 lands on line 1 of the RAM.
@@ -244,9 +244,9 @@ mod tests {
         assert_eq!(rt; answer(all.write(1, &[9; 128])), Err((11, 1)));
         assert_eq!(rt; answer(all.write(4, &[9; 128])), Err((10, 4)));
         assert_eq!(rt; read(&all, 3), (Ok(()), counting()));
-        assert_eq!(rt; &bytes[0..128], &[7; 128]);
-        assert_eq!(rt; &bytes[128..256], &counting());
-        assert_eq!(rt; &bytes[256..300], &[7; 44]);
+        assert_eq!(rt; &bytes[0..128], [7; 128].as_slice());
+        assert_eq!(rt; &bytes[128..256], counting().as_slice());
+        assert_eq!(rt; &bytes[256..300], [7; 44].as_slice());
     }
 
     // Of two lines of RAM behind all lines but one, the second is cut off.
@@ -270,7 +270,7 @@ mod tests {
             read(&all, 33_554_432),
             (Err((10, 33_554_432)), [0xA5; 128])
         );
-        assert_eq!(rt; &bytes[0..128], &[9; 128]);
-        assert_eq!(rt; &bytes[128..300], &[7; 172]);
+        assert_eq!(rt; &bytes[0..128], [9; 128].as_slice());
+        assert_eq!(rt; &bytes[128..300], [7; 172].as_slice());
     }
 }

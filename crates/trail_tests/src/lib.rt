@@ -63,7 +63,7 @@ mod tests {
         assert_eq!(rt; trail.records().len(), 0);
         assert_eq!(rt; trail.add_all(&[1, 2]), 2);
         assert_eq!(rt; trail.add(3), Ok(()));
-        assert_eq!(rt; trail.records(), &[1, 2, 3]);
+        assert_eq!(rt; trail.records(), [1, 2, 3].as_slice());
         assert_eq!(rt; slots, [1, 2, 3, 9]);
     }
 
