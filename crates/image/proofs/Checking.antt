@@ -1,5 +1,5 @@
 -- Checking the places of an image one after the other.
-use Rattle.std.proofs.Common.{◌≡◌, ℕ, ◌+◌, List, [], ◌∷◌, drop, sym, refl, ap, ◌∙◌, subst}
+use Rattle.std.proofs.Common.{◌≡◌, ℕ, ◌+◌, List, drop, sym, subst}
 use Rattle.std.proofs.lemmas.List.{drop-drop}
 use Rattle.store.specs.Meaning.{Meaning}
 use Rattle.image.specs.Format.{Placed, Image, front, places, taken}

@@ -1,8 +1,8 @@
 -- Which record stands at the front of some bytes.
-use Rattle.std.proofs.Common.{◌≡◌, ℕ, ◌+◌, ◌-◌, ◌<◌, ◌≤◌, Bool, true, false, cond, ◌||◌, eqb, ltb, ◌≢◌, ◌⊎◌, List, length, take, drop, sym, refl, ◌∙◌, inl, inr, ⊎_elim, arith, length-drop, length-take}
-use Rattle.std.proofs.lemmas.Bool.{lt-ltb, le-ltb, eq-eqb, ne_eqb, ltb-true, ltb-false, or_cases, or_parts, cases_Bool, cases_lt, cases_eq, cond-true, cond-false}
+use Rattle.std.proofs.Common.{◌≡◌, ℕ, ◌+◌, ◌-◌, ◌<◌, ◌≤◌, ◌||◌, ltb, ◌≢◌, List, length, take, drop, sym, ◌∙◌, ⊎_elim, arith, length-drop, length-take}
+use Rattle.std.proofs.lemmas.Bool.{lt-ltb, le-ltb, eq-eqb, ne_eqb, ltb-false, or_parts, cases_Bool, cases_lt, cases_eq, cond-true, cond-false}
 use Rattle.refusal.specs.declared.Refusal.TheVariants.{Cut, Kind}
-use Rattle.image.specs.Format.{Front, places, ends, bad, front, front_place, front_end, body_length, kind, four, taken}
+use Rattle.image.specs.Format.{places, ends, bad, front, front_place, front_end, body_length, kind, four, taken}
 
 module _ (bs : List ℕ) where
   pub front_cut : length bs < 6 → front bs ≡ bad Cut

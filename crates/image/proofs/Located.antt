@@ -1,5 +1,5 @@
 -- What is known of a result once the byte place is added to its cause.
-use Rattle.std.proofs.Common.{◌≡◌, ℕ, Ok, Err, Result, sym, refl, ap, subst, arith}
+use Rattle.std.proofs.Common.{◌≡◌, ℕ, Ok, Err, Result, sym, ap, subst, arith}
 use Rattle.image.specs.declared.fault.Cause.{Cause}
 use Rattle.image.specs.declared.fault.Fault.{Fault}
 use Rattle.image.specs.Causes.{located}

@@ -1,8 +1,7 @@
 -- An image has one outcome in a store: what is said of it by `Loads` is said of one result and one store only.
-use Rattle.std.proofs.Common.{◌≡◌, ℕ, ◌+◌, ◌<◌, true, false, List, [], ◌∷◌, length, drop, Ok, Err, Result, sym, refl, ap, ◌∙◌, subst, ⊎_elim, arith}
+use Rattle.std.proofs.Common.{◌≡◌, ℕ, ◌+◌, true, List, ◌∷◌, drop, Ok, Err, Result, sym, refl, ap, ◌∙◌, subst, ⊎_elim, arith}
 use Rattle.std.proofs.lemmas.Bool.{cases_order, both_ways}
 use Rattle.refusal.specs.declared.Refusal.{Refusal}
-use Rattle.store.specs.declared.fault.LineFault.{LineFault}
 use Rattle.store.specs.Meaning.{Meaning}
 use Rattle.store.specs.Rules.{refused}
 use Rattle.image.specs.declared.fault.Cause.{Cause}

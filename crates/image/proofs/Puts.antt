@@ -1,11 +1,11 @@
 -- Writing a place line by line.
-use Rattle.std.proofs.Common.{◌≡◌, ℕ, ◌+◌, ◌-◌, ◌*◌, ◌/◌, ◌<◌, ◌≤◌, min, max, cond, eqb, ltb, ◌⊎◌, List, length, sym, refl, ap, ◌∙◌, inl, inr, ⊎_elim, arith}
-use Rattle.std.proofs.lemmas.Bool.{cases_lt, cases_eq, cases_order, lt-ltb, le-ltb, eq-eqb, ne_eqb, cond-true, cond-false}
+use Rattle.std.proofs.Common.{◌≡◌, ℕ, ◌+◌, ◌*◌, ◌/◌, ◌<◌, ◌≤◌, cond, eqb, ltb, ◌⊎◌, List, length, sym, refl, ap, inl, inr, ⊎_elim, arith}
+use Rattle.std.proofs.lemmas.Bool.{cases_lt, cases_eq, cases_order, lt-ltb, le-ltb, eq-eqb, ne_eqb, cond-false}
 use Rattle.store.specs.Meaning.{Meaning, Sound, with_line}
 use Rattle.store.proofs.Lines.{same_meaning}
 use Rattle.image.specs.Placing.{put, spliced, past_line, line_at, FitsIn}
 use Rattle.image.proofs.Splices.{spliced_none, byte_before, byte_behind}
-use Rattle.image.proofs.Spans.{past_none, past_some}
+use Rattle.image.proofs.Spans.{past_some}
 
 cases_order' : (k n : ℕ) → (k < n) ⊎ ((k ≡ n) ⊎ (n < k))
 cases_order' k n = ⊎_elim (λ e. inr (inl e)) (⊎_elim inl (λ h. inr (inr h))) (cases_order k n)

@@ -2,7 +2,7 @@
 use Rattle.std.proofs.Common.{◌≡◌, ℕ, ◌+◌, List, [], ◌∷◌, drop, sym, refl, ap, ◌∙◌, subst, arith}
 use Rattle.std.proofs.lemmas.List.{drop-drop}
 use Rattle.refusal.specs.declared.Refusal.{Refusal}
-use Rattle.image.specs.Format.{Front, places, ends, front, taken, Placed, Image, Malformed, later, ended, placed}
+use Rattle.image.specs.Format.{places, ends, front, taken, Placed, Image, Malformed, later, ended, placed}
 
 module _ (image : List ℕ) (at next a : ℕ) (b : List ℕ) (f : front (drop at image) ≡ places a b) (e : next ≡ at + taken b) where
   on : drop next image ≡ drop (taken b) (drop at image)

@@ -1,6 +1,5 @@
 -- What loading an image into a store answers, and what the store holds then.
-use Rattle.std.specs.Prelude.{◌≡◌, ℕ, ◌+◌, List, [], ◌∷◌, ◌++◌, length, Ok, Err, Result}
-use Rattle.store.specs.declared.fault.LineFault.{LineFault}
+use Rattle.std.specs.Prelude.{◌≡◌, ℕ, List, [], ◌∷◌, Ok, Err, Result}
 use Rattle.store.specs.Kinds.{fuse, ram}
 use Rattle.store.specs.Meaning.{Meaning}
 use Rattle.store.specs.Rules.{refused}

@@ -1,11 +1,10 @@
 -- Lines within bytes: what a write over one line leaves of the others.
-use Rattle.std.proofs.Common.{◌≡◌, ℕ, zero, suc, ◌+◌, ◌-◌, ◌*◌, ◌/◌, ◌<◌, ◌≤◌, min, Bool, true, false, cond, eqb, ltb, ◌⊎◌, List, [], ◌++◌, length, take, drop, replicate, sym, refl, ap, ◌∙◌, inl, inr, ⊎_elim, arith, length-append, length-drop, length-take, take-add, rules}
-use lib.ListN.{length-replicate}
+use Rattle.std.proofs.Common.{◌≡◌, ℕ, zero, suc, ◌+◌, ◌-◌, ◌*◌, ◌/◌, ◌<◌, ◌≤◌, min, cond, eqb, ltb, List, [], ◌++◌, length, take, drop, replicate, sym, refl, ap, ◌∙◌, ⊎_elim, arith, length-drop, length-take, take-add, rules}
 use borrow.Rule.Slice.PartMut.{put_mid, mid_of, post_of}
-use Rattle.std.proofs.lemmas.Bool.{cases_lt, cases_order, eq-eqb, ne_eqb, cond-true, cond-false}
+use Rattle.std.proofs.lemmas.Bool.{cases_lt, cases_order, eq-eqb, ne_eqb}
 use Rattle.std.proofs.lemmas.List.{take-append-drop, drop-take, take_at, drop_at, take_all, drop_all, append-nil}
-use Rattle.std.proofs.lemmas.Slice.{drop-put_mid, take-put_mid_below, between-put_mid, between_is, overwrites}
-use Rattle.store.specs.Meaning.{Meaning, Kept, with_line, loan}
+use Rattle.std.proofs.lemmas.Slice.{drop-put_mid, take-put_mid_below, between-put_mid, overwrites}
+use Rattle.store.specs.Meaning.{Meaning, with_line, loan}
 use Rattle.store.specs.Kinds.{ram, whole_lines, line_of, filled}
 
 -- Stores of one size, with the same lines, of which the same can be written, and that keep the same, are the same.

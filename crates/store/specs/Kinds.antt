@@ -1,5 +1,5 @@
 -- What each kind of store means. Sizes are cut at the most lines that a store has.
-use Rattle.std.specs.Prelude.{ℕ, ◌+◌, ◌-◌, ◌*◌, ◌/◌, min, Bool, false, cond, ◌&&◌, List, [], ◌++◌, length, take, drop, replicate, nat_le, nat_lt}
+use Rattle.std.specs.Prelude.{ℕ, ◌+◌, ◌-◌, ◌*◌, ◌/◌, min, false, cond, ◌&&◌, List, [], ◌++◌, length, take, drop, replicate, nat_le, nat_lt}
 use Rattle.store.specs.Meaning.{Meaning, most, nothing, loan, both}
 
 -- The 128 bytes from byte 128 × n on, or those of them that are there.

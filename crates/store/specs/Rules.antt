@@ -1,5 +1,5 @@
 -- What reading and writing a line answer, and what store and record hold then.
-use Rattle.std.specs.Prelude.{◌≡◌, ℕ, ◌<◌, ◌≤◌, Bool, true, false, cond, List, Ok, Err, Result, nat_lt}
+use Rattle.std.specs.Prelude.{◌≡◌, ℕ, ◌<◌, ◌≤◌, true, false, cond, List, Ok, Err, Result, nat_lt}
 use Rattle.refusal.specs.declared.Refusal.TheVariants.{MissingLine, FixedLine}
 use Rattle.store.specs.declared.fault.LineFault.{LineFault}
 use Rattle.store.specs.Meaning.{Meaning, with_line}

@@ -1,10 +1,10 @@
 -- Each kind of store is sound. These are proofs, and nothing that a reader must believe: a ghost member can cite them only from here.
-use Rattle.std.specs.Prelude.{◌≡◌, ℕ, ◌+◌, ◌-◌, ◌*◌, ◌/◌, ◌<◌, ◌≤◌, min, Bool, true, false, cond, ◌&&◌, List, [], length, replicate, nat_le, nat_lt, refl}
+use Rattle.std.specs.Prelude.{◌≡◌, ℕ, ◌-◌, ◌<◌, ◌≤◌, true, cond, List, [], length, nat_le, nat_lt}
 use Rattle.std.proofs.Common.{⊎_elim, arith, length-take, length-drop, length-append}
 use Rattle.std.proofs.lemmas.List.{length-replicate}
 use Rattle.std.proofs.lemmas.Bool.{ltb-true, lt-ltb, le-ltb, and_parts, false≢true, cases_lt}
 use Rattle.store.specs.Meaning.{Meaning, Sound, most}
-use Rattle.store.specs.Kinds.{line_of, whole_lines, begun_lines, filled, ram, rom, open_bus, fuse, split}
+use Rattle.store.specs.Kinds.{line_of, whole_lines, filled, ram, rom, open_bus, fuse, split}
 
 whole_line : (bytes : List ℕ) (n : ℕ) → n < whole_lines bytes → length (line_of bytes n) ≡ 128
 whole_line bytes n h = simp (length-take, length-drop) (omega arith)

@@ -1,5 +1,5 @@
 -- What follows of a reading, and two worked words.
-use Rattle.std.proofs.Common.{◌≡◌, ℕ, pos, Some, None, Option, sym, refl, ◌∙◌, arith, rules}
+use Rattle.std.proofs.Common.{◌≡◌, ℕ, pos, Some, None, Option, sym, refl, arith, rules}
 use Rattle.word.specs.Codes.{Codes}
 use Rattle.word.specs.Decodes.{Decodes, Defined}
 use Rattle.word.specs.declared.element.ElementType.TheVariants.{S16}

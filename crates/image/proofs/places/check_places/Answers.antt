@@ -3,7 +3,7 @@ use Rattle.std.proofs.lemmas.Result.{err_from_is_err_and}
 use Rattle.store.specs.Meaning.{Meaning}
 use Rattle.image.specs.declared.fault.Cause.{Cause}
 use Rattle.image.specs.declared.fault.Cause.TheVariants.{Form, Line}
-use Rattle.image.specs.Format.{Placed, Image, front, places}
+use Rattle.image.specs.Format.{front, places}
 use Rattle.image.specs.Loading.{PlaceChecks, Faulty, FirstMisfit}
 use Rattle.image.proofs.Checking.{Unchecked, unchecked_all, unchecked_more, misfit_here, checked_all}
 use Rattle.image.proofs.Located.{located_err, located_ok}

@@ -1,5 +1,5 @@
 use Rattle.std.proofs.Common.{◌≡◌, ◌-◌, ◌*◌, true, sym, refl, ap, ◌∙◌, subst, arith}
-use Rattle.store.specs.Meaning.{Meaning, with_line}
+use Rattle.store.specs.Meaning.{with_line}
 use Rattle.image.specs.Placing.{spliced}
 use Rattle.image.proofs.Puts.{put_start, put_more, put_end}
 use Rattle.image.proofs.Spans.{first_byte, on_some_byte}

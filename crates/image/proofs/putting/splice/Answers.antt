@@ -1,4 +1,4 @@
-use Rattle.std.proofs.Common.{◌≡◌, ◌+◌, ◌-◌, min, max, length, take, drop, sym, ap, ◌∙◌, arith}
+use Rattle.std.proofs.Common.{◌-◌, take, drop, sym, ap, ◌∙◌, arith}
 use Rattle.image.proofs.Splices.{spliced_apart, spliced_meets}
 use Rattle.image.proofs.putting.splice.Goals as goal
 

@@ -1,5 +1,4 @@
-use Rattle.std.proofs.Common.{arith, rules}
-use Rattle.image.specs.Records.{Shows}
+use Rattle.std.proofs.Common.{arith}
 use Rattle.image.proofs.Fronts.{front_cut, front_is_place, front_ends, front_full_end, front_unknown}
 use Rattle.image.proofs.record.first_record.Goals as goal
 use Rattle.image.proofs.record.first_record.Goals.{in_default-via-in-2+else-long-eq0, in_default-via-in_default-1}

@@ -1,4 +1,4 @@
-use Rattle.std.proofs.Common.{◌≡◌, ℕ, ◌-◌, length, take, drop, Ok, Err, Result, refl, ap}
+use Rattle.std.proofs.Common.{ℕ, ◌-◌, length, take, drop, Ok, Err, Result, refl}
 use Rattle.std.proofs.lemmas.List.{take_rest}
 use Rattle.image.specs.declared.fault.Cause.{Cause}
 use Rattle.image.specs.declared.fault.Cause.TheVariants.{Form, Line}
