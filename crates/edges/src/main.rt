@@ -3,7 +3,7 @@
 // examples/edge_values.py works out from the rules alone. It uses `scalar` and `line` for the answers.
 #![tactic(auto)]
 
-use element::ElementType;
+use word::ElementType;
 use line::{Place, divide_lines, fill, get, has_zero, put, reduce, vector, vector_addr, zeros};
 use scalar::{cast, compute, divide};
 use std::io;

@@ -4,8 +4,8 @@ use Rattle.std.proofs.Common.{◌≡◌, ℕ, zero, suc, ◌+◌, ◌-◌, ◌*�
 use lib.Bits.{bit_and}
 use lib.Pow.{ones_lt, ones_split, low}
 use lib.Signed.{lt_z}
-use Rattle.element.specs.Types.{bits}
-use Rattle.element.specs.declared.ElementType.{ElementType}
+use Rattle.word.specs.Types.{bits}
+use Rattle.word.specs.declared.element.ElementType.{ElementType}
 use Rattle.line.specs.Reductions.{over, joined, gathered}
 use Rattle.scalar.specs.Arithmetic.{compute}
 use Rattle.scalar.specs.Casts.{residue, cast}

@@ -2,9 +2,9 @@
 use Rattle.std.proofs.Common.{◌≡◌, ℕ, zero, suc, ◌+◌, ◌-◌, ◌*◌, ◌/◌, ◌%◌, ◌^◌, ◌<◌, ◌≤◌, List, [], ◌∷◌, ◌++◌, length, get_or, take, drop, ℤ, pos, sym, refl, ap, ◌∙◌, ap₂, ⊎_elim, mod-eq_of_lt, suc-mul, pow-suc, zero-mul, arith}
 use lib.Arith.{mod-mul}
 use native.Mathlib.Nat.{mod-one, pow-succ'}
-use Rattle.element.specs.Types.{bits, width}
-use Rattle.element.specs.declared.ElementType.{ElementType}
-use Rattle.element.specs.declared.ElementType.TheVariants.{U8, S8, U16, S16, U32, S32, U64, S64}
+use Rattle.word.specs.Types.{bits, width}
+use Rattle.word.specs.declared.element.ElementType.{ElementType}
+use Rattle.word.specs.declared.element.ElementType.TheVariants.{U8, S8, U16, S16, U32, S32, U64, S64}
 use Rattle.line.specs.Elements.{number, bytes, splice, count, element}
 use Rattle.line.specs.Vectors.{row, line_of}
 use Rattle.line.proofs.Bytes.{length-bytes}

@@ -1,8 +1,8 @@
 -- Lines that are written element by element.
 use Rattle.std.proofs.Common.{◌≡◌, ℕ, zero, suc, ◌+◌, ◌*◌, ◌/◌, ◌<◌, ◌≤◌, List, [], ◌++◌, length, take, ℤ, pos, sym, refl, ap, ◌∙◌, ap₂, add-mul, zero-mul, add-one, arith}
-use Rattle.element.specs.Types.{bits, width}
-use Rattle.element.specs.declared.ElementType.{ElementType}
-use Rattle.element.specs.declared.ElementType.TheVariants.{U8, S8, U16, S16, U32, S32, U64, S64}
+use Rattle.word.specs.Types.{bits, width}
+use Rattle.word.specs.declared.element.ElementType.{ElementType}
+use Rattle.word.specs.declared.element.ElementType.TheVariants.{U8, S8, U16, S16, U32, S32, U64, S64}
 use Rattle.line.specs.Elements.{bytes, splice, count, element, zero_line}
 use Rattle.line.specs.Vectors.{row, line_of}
 use Rattle.line.proofs.Bytes.{length-bytes, length-splice, take-splice}

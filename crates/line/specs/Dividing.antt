@@ -1,6 +1,6 @@
 -- Division of every element of a line.
 use Rattle.std.specs.Prelude.{ℕ, zero, suc, Bool, false, ◌||◌, List, nat_eq, unsigned_abs}
-use Rattle.element.specs.declared.ElementType.{ElementType}
+use Rattle.word.specs.declared.element.ElementType.{ElementType}
 use Rattle.line.specs.Elements.{count, element}
 use Rattle.line.specs.Vectors.{line_of}
 use Rattle.scalar.specs.Arithmetic.{quotient, remainder}

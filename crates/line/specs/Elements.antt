@@ -1,7 +1,7 @@
 -- The elements of a line: the numbers that its bytes make, the lowest byte first.
 use Rattle.std.specs.Prelude.{◌≡◌, ℕ, zero, suc, ◌+◌, ◌*◌, ◌/◌, ◌%◌, ◌^◌, List, [], ◌∷◌, ◌++◌, length, take, drop, replicate, ℤ, pos, slice_index}
-use Rattle.element.specs.Types.{width}
-use Rattle.element.specs.declared.ElementType.{ElementType}
+use Rattle.word.specs.Types.{width}
+use Rattle.word.specs.declared.element.ElementType.{ElementType}
 use Rattle.scalar.specs.Casts.{residue, cast}
 
 -- The number that w bytes from the place p on make.

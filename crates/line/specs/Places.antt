@@ -1,7 +1,7 @@
 -- The element at a place in a line.
 use Rattle.std.specs.Prelude.{ℕ, ◌/◌}
-use Rattle.element.specs.Types.{width}
-use Rattle.element.specs.declared.ElementType.{ElementType}
+use Rattle.word.specs.Types.{width}
+use Rattle.word.specs.declared.element.ElementType.{ElementType}
 use Rattle.line.specs.declared.places.Place.{Place}
 
 -- The element that a byte belongs to has the number offset div width: the low bits of an address

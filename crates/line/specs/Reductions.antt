@@ -1,7 +1,7 @@
 -- The reductions: every element of a line joined into one number.
 use Rattle.std.specs.Prelude.{ℕ, zero, suc, ◌-◌, ◌^◌, List, ℤ, pos, ◌+ℤ◌, ◌*ℤ◌, bit_and}
-use Rattle.element.specs.Types.{bits}
-use Rattle.element.specs.declared.ElementType.{ElementType}
+use Rattle.word.specs.Types.{bits}
+use Rattle.word.specs.declared.element.ElementType.{ElementType}
 use Rattle.line.specs.Elements.{count, element}
 use Rattle.scalar.specs.Casts.{residue, cast}
 use Rattle.std.specs.Int.{int_max, int_min}

@@ -1,7 +1,7 @@
 -- Operations on every element of a line.
 use Rattle.std.specs.Prelude.{ℕ, zero, suc, ◌*◌, List, [], ◌++◌, ℤ, pos}
-use Rattle.element.specs.Types.{width}
-use Rattle.element.specs.declared.ElementType.{ElementType}
+use Rattle.word.specs.Types.{width}
+use Rattle.word.specs.declared.element.ElementType.{ElementType}
 use Rattle.line.specs.Elements.{bytes, count, element}
 use Rattle.scalar.specs.Arithmetic.{result}
 use Rattle.scalar.specs.Casts.{residue}

@@ -1,6 +1,6 @@
 // Division of every element of a line.
 ghost use Rattle.std.specs.Prelude.{◌≡◌, ◌*◌, ◌<◌, ◌||◌, ◌==◌, unsigned_abs};
-ghost use Rattle.element.specs.Types.{bits, width};
+ghost use Rattle.word.specs.Types.{bits, width};
 ghost use Rattle.line.specs.Dividing.{any_zero, quotient_line, remainder_line};
 ghost use Rattle.line.specs.Elements.{bytes, splice};
 ghost use Rattle.line.specs.Elements.{count as lanes, element as elementOf};
@@ -9,7 +9,7 @@ ghost use Rattle.scalar.specs.Casts.{residue};
 
 use crate::elements::{count, lane_at, set_lane};
 use crate::kinds::*;
-use element::ElementType;
+use word::ElementType;
 use scalar::dividing::{divide_lanes, is_zero_lane};
 
 // Whether element k is zero, or another was before.

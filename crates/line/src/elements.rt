@@ -1,6 +1,6 @@
 // Reading and writing an element.
 ghost use Rattle.std.specs.Prelude.{◌≡◌, ◌+◌, ◌*◌, ◌<◌, ◌≤◌, true, pos, ◌==◌};
-ghost use Rattle.element.specs.Types.{width};
+ghost use Rattle.word.specs.Types.{width};
 ghost use Rattle.line.specs.Elements.{number, bytes, splice, zero_line};
 ghost use Rattle.line.specs.Elements.{count as lanes, element as elementOf, put as replaced, Recast};
 ghost use Rattle.line.specs.Places.{element_number};
@@ -8,7 +8,7 @@ ghost use Rattle.scalar.specs.Casts.{cast};
 
 use crate::kinds::*;
 use crate::places::Place;
-use element::ElementType;
+use word::ElementType;
 use scalar::lanes::{lane, value};
 
 // The zero line.

@@ -1,9 +1,9 @@
 // The types of elements as types of the language, so that a function over one is compiled for it.
-ghost use Rattle.element.specs.declared.ElementType.{ElementType};
-ghost use Rattle.element.specs.declared.ElementType.TheVariants.{U8 as KindU8, S8 as KindS8, U16 as KindU16, S16 as KindS16, U32 as KindU32, S32 as KindS32, U64 as KindU64, S64 as KindS64};
+ghost use Rattle.word.specs.declared.element.ElementType.{ElementType};
+ghost use Rattle.word.specs.declared.element.ElementType.TheVariants.{U8 as KindU8, S8 as KindS8, U16 as KindU16, S16 as KindS16, U32 as KindU32, S32 as KindS32, U64 as KindU64, S64 as KindS64};
 ghost use Rattle.std.specs.Prelude.{◌≡◌};
 
-use element::ElementType;
+use word::ElementType;
 
 pub(crate) trait Kind {
     ghost kind: { ElementType };

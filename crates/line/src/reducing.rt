@@ -1,6 +1,6 @@
 // The reductions: every element of a line joined into one number.
 ghost use Rattle.std.specs.Prelude.{◌≡◌, ◌<◌, pos};
-ghost use Rattle.element.specs.Types.{bits};
+ghost use Rattle.word.specs.Types.{bits};
 ghost use Rattle.line.specs.Elements.{count as lanes, element as elementOf};
 ghost use Rattle.line.specs.Reductions.{gathered, reduced};
 ghost use Rattle.scalar.specs.Casts.{residue, cast};
@@ -8,7 +8,7 @@ ghost use Rattle.word.specs.declared.opcodes.Reduction.TheVariants.{Add as AddOf
 
 use crate::elements::{count, lane_at};
 use crate::kinds::*;
-use element::ElementType;
+use word::ElementType;
 use scalar::lanes::{convert, value};
 use scalar::operations::*;
 use word::Reduction;

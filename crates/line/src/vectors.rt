@@ -1,7 +1,7 @@
 // Operations on every element of a line. The result is made in a line of its own and then written, so
 // every operand is read before anything is written.
 ghost use Rattle.std.specs.Prelude.{◌≡◌, ◌*◌, ◌<◌, pos};
-ghost use Rattle.element.specs.Types.{bits, width};
+ghost use Rattle.word.specs.Types.{bits, width};
 ghost use Rattle.line.specs.Elements.{bytes, splice};
 ghost use Rattle.line.specs.Elements.{count as lanes, element as elementOf};
 ghost use Rattle.line.specs.Vectors.{line_of, filled};
@@ -11,7 +11,7 @@ ghost use Rattle.scalar.specs.Casts.{residue};
 
 use crate::elements::{count, lane_at, set_lane, zeros};
 use crate::kinds::*;
-use element::ElementType;
+use word::ElementType;
 use scalar::lanes::{lane, low};
 use scalar::operations::*;
 use word::Arith;

@@ -1,7 +1,7 @@
 -- What the C functions leave in the caller's memory.
 use Rattle.std.specs.Prelude.{ℕ, ◌≤◌, ◌≡◌}
-use Rattle.element.specs.Types.{type_number}
-use Rattle.element.specs.declared.ElementType.{ElementType}
+use Rattle.word.specs.Numbers.{type_number}
+use Rattle.word.specs.declared.element.ElementType.{ElementType}
 
 -- What is made for the type that has the number n; a number that no type has leaves all as it was.
 pub record Leaves {X : Type 0} (n : ℕ) (made : ElementType → X) (before after : X) : Type 0 where

@@ -11,7 +11,7 @@ ghost use Rattle.word.specs.declared.opcodes.Arith.TheVariants.{Add as AddOf, Mu
 ghost use Rattle.word.specs.declared.opcodes.Reduction.TheVariants.{Add as Sum};
 ghost use Rattle.std.specs.Prelude.{cond, ◌≡◌};
 
-use element::ElementType;
+use word::ElementType;
 use line::{apply, divide_lines, has_zero, reduce};
 use scalar::lanes::lane;
 use scalar::operations::*;

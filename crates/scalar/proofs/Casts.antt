@@ -11,9 +11,9 @@ use mir.Syntax.{Width, w128}
 use mir.Val as val
 use mir.Val.{hbits, sel}
 use native.Mathlib.Nat.{mod-le, mod-mod, mul-mod_left}
-use Rattle.element.specs.Types.{bits, width, signed}
-use Rattle.element.specs.declared.ElementType.{ElementType}
-use Rattle.element.specs.declared.ElementType.TheVariants.{U8, S8, U16, S16, U32, S32, U64, S64}
+use Rattle.word.specs.Types.{bits, width, signed}
+use Rattle.word.specs.declared.element.ElementType.{ElementType}
+use Rattle.word.specs.declared.element.ElementType.TheVariants.{U8, S8, U16, S16, U32, S32, U64, S64}
 use Rattle.scalar.specs.Arithmetic.{cut_remainder}
 use Rattle.scalar.specs.Casts.{residue, read_bits, cast}
 use Rattle.scalar.proofs.Residues.{residue_is, residue_same, residue_differs, residue-pos, residue_below, residue_small, residue-residue}

@@ -5,8 +5,8 @@ use lib.Bits.{bit_and, bit_or, bit_xor}
 use lib.Pow.{shr_le}
 use lib.Signed.{lt_z, shr_z}
 use native.Mathlib.Nat.{mod-mod, mod-add-mod, mul-mod_left, div-eq_of_lt}
-use Rattle.element.specs.Types.{bits}
-use Rattle.element.specs.declared.ElementType.{ElementType}
+use Rattle.word.specs.Types.{bits}
+use Rattle.word.specs.declared.element.ElementType.{ElementType}
 use Rattle.scalar.specs.Casts.{residue, cast}
 use Rattle.scalar.specs.Arithmetic.{shift_left, shift_right, shifted_out, rotate, negative}
 use Rattle.scalar.proofs.Casts.{bits_low, bits_high, mod_fewer, lane_residue}

@@ -2,8 +2,8 @@
 use Rattle.std.specs.Prelude.{ℕ, ◌+◌, ◌-◌, ◌*◌, ◌/◌, ◌%◌, ◌^◌, Bool, true, false, cond, not, ℤ, pos, negsuc, ◌+ℤ◌, ◌-ℤ◌, ◌*ℤ◌, neg_ℤ, Some, None, Option, ◌==◌, bit_and, bit_or, bit_xor, int_lt, nat_lt, unsigned_abs}
 use Rattle.std.specs.Int.Signed.{shr_z}
 use Rattle.std.specs.Bool.{beq}
-use Rattle.element.specs.Types.{bits}
-use Rattle.element.specs.declared.ElementType.{ElementType}
+use Rattle.word.specs.Types.{bits}
+use Rattle.word.specs.declared.element.ElementType.{ElementType}
 use Rattle.scalar.specs.Casts.{residue, cast}
 use Rattle.scalar.specs.declared.dividing.Division.{Division}
 use Rattle.word.specs.declared.opcodes.Arith.{Arith}

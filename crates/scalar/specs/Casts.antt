@@ -1,7 +1,7 @@
 -- Casts: a number reduced to so many bits and read by a type.
 use Rattle.std.specs.Prelude.{ℕ, ◌-◌, ◌%◌, ◌^◌, Bool, true, false, cond, ℤ, pos, negsuc, ◌-ℤ◌, nat_le}
-use Rattle.element.specs.Types.{bits, signed}
-use Rattle.element.specs.declared.ElementType.{ElementType}
+use Rattle.word.specs.Types.{bits, signed}
+use Rattle.word.specs.declared.element.ElementType.{ElementType}
 
 -- z modulo 2 ^ n: the number from 0 to 2 ^ n - 1 that differs from z by a multiple of 2 ^ n.
 -- (`negsuc m` is the number -(m + 1).)

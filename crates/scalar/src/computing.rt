@@ -4,7 +4,7 @@ ghost use Rattle.std.specs.Prelude.{◌≡◌};
 
 use crate::lanes::{lane, value};
 use crate::operations::*;
-use element::ElementType;
+use word::ElementType;
 use word::Arith;
 
 // One operation on numbers of any types, which are cast to the type.

@@ -1,11 +1,11 @@
 // Division with its remainder.
 ghost use Rattle.std.specs.Prelude.{◌≡◌, ◌/◌, ◌%◌, pos, unsigned_abs};
-ghost use Rattle.element.specs.Types.{bits};
+ghost use Rattle.word.specs.Types.{bits};
 ghost use Rattle.scalar.specs.Arithmetic.{negative, with_sign, cut_quotient, cut_remainder, casts_to_zero, division, divided};
 ghost use Rattle.scalar.specs.Casts.{residue, cast};
 
 use crate::lanes::{extend, lane, low, value};
-use element::ElementType;
+use word::ElementType;
 
 // What a division of numbers gives.
 #[derive(Clone, Copy, PartialEq, Eq, Debug)]

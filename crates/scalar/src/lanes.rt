@@ -2,12 +2,12 @@
 // its lowest bits count, as many as the type has, so every u64 is a lane of every type. What is
 // made of lanes has no other bits set.
 ghost use Rattle.std.specs.Prelude.{◌≡◌, ◌%◌, ◌^◌, ◌≤◌, true, false, pos, if◌then◌else◌, int_lt};
-ghost use Rattle.element.specs.Types.{bits, signed};
+ghost use Rattle.word.specs.Types.{bits, signed};
 ghost use Rattle.scalar.specs.Arithmetic.{shift_left, shift_right};
 ghost use Rattle.scalar.specs.Arithmetic.{rotate as rotated};
 ghost use Rattle.scalar.specs.Casts.{residue, cast};
 
-use element::ElementType;
+use word::ElementType;
 
 // The lowest bits of x, where these are the bits that count.
 fn lowest(kind: ElementType, x: u64, count: u32) -> u64

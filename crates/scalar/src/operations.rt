@@ -1,14 +1,14 @@
 // The operations of two operands on lanes. Each is a type, so that a loop over many lanes is
 // compiled for one operation.
 ghost use Rattle.std.specs.Prelude.{◌≡◌, ℕ, ℤ, pos};
-ghost use Rattle.element.specs.Types.{bits};
+ghost use Rattle.word.specs.Types.{bits};
 ghost use Rattle.scalar.specs.Arithmetic.{compute};
 ghost use Rattle.scalar.specs.Casts.{residue, cast};
 ghost use Rattle.std.specs.Int.{int_max, int_min};
 ghost use Rattle.word.specs.declared.opcodes.Arith.TheVariants.{Add as AddOf, Sub as SubOf, Slt as SltOf, Mul as MulOf, And as AndOf, Or as OrOf, Xor as XorOf, Shl as ShlOf, Shr as ShrOf, Rol as RolOf, Ror as RorOf};
 
 use crate::lanes::{is_less, low, rotate, shift_left, shift_right, truth};
-use element::ElementType;
+use word::ElementType;
 
 pub trait Operation {
     // what is made of two numbers of so many bits

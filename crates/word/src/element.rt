@@ -1,6 +1,7 @@
 // The types of elements, by which load, store and dup read or write a line. specs/Numbers.antt
-// holds the number of each.
+// holds the number of each, and specs/Types.antt the width and the sign.
 ghost use Rattle.word.specs.Numbers.{type_number, Named};
+ghost use Rattle.word.specs.Types.{width, bits, signed};
 ghost use Rattle.std.specs.Prelude.{◌≡◌};
 
 // An unsigned (U) or signed (S) number of so many bits.
@@ -47,6 +48,40 @@ impl ElementType {
             6 => Some(ElementType::U64),
             7 => Some(ElementType::S64),
             _ => None,
+        }
+    }
+
+    // How many bytes an element has.
+    pub fn width(self) -> usize
+        ensures { result ≡ width self }
+    {
+        match self {
+            ElementType::U8 | ElementType::S8 => 1,
+            ElementType::U16 | ElementType::S16 => 2,
+            ElementType::U32 | ElementType::S32 => 4,
+            ElementType::U64 | ElementType::S64 => 8,
+        }
+    }
+
+    // How many bits an element has.
+    pub fn bits(self) -> u32
+        ensures { result ≡ bits self }
+    {
+        match self {
+            ElementType::U8 | ElementType::S8 => 8,
+            ElementType::U16 | ElementType::S16 => 16,
+            ElementType::U32 | ElementType::S32 => 32,
+            ElementType::U64 | ElementType::S64 => 64,
+        }
+    }
+
+    // Whether an element is read in two's complement.
+    pub fn is_signed(self) -> bool
+        ensures { result ≡ signed self }
+    {
+        match self {
+            ElementType::U8 | ElementType::U16 | ElementType::U32 | ElementType::U64 => false,
+            ElementType::S8 | ElementType::S16 | ElementType::S32 | ElementType::S64 => true,
         }
     }
 }

@@ -1,4 +1,4 @@
-use Rattle.element.specs.Types.{bits}
+use Rattle.word.specs.Types.{bits}
 use Rattle.line.specs.Elements.{element}
 use Rattle.line.proofs.Rows.{made_none, made_more, made_all, residue-applied, residue-remainder}
 use Rattle.line.proofs.dividing.divide_as.Goals as goal

@@ -1,5 +1,5 @@
 use Rattle.std.proofs.Common.{pos, ap, ◌∙◌}
-use Rattle.element.specs.Types.{width}
+use Rattle.word.specs.Types.{width}
 use Rattle.line.specs.Elements.{element, number}
 use Rattle.line.proofs.elements.lane_at.Goals as goal
 use Rattle.scalar.specs.Casts.{cast}

@@ -1,5 +1,5 @@
 use Rattle.std.proofs.Common.{sym, refl, ap, ◌∙◌}
-use Rattle.element.specs.declared.ElementType.TheVariants.{U8, S8, U16, S16, U32, S32, U64, S64}
+use Rattle.word.specs.declared.element.ElementType.TheVariants.{U8, S8, U16, S16, U32, S32, U64, S64}
 use Rattle.line.specs.Elements.{number}
 use Rattle.line.proofs.Bytes.{width_is}
 use Rattle.line.proofs.elements.load.Goals as goal

@@ -1,6 +1,6 @@
 use Rattle.std.proofs.Common.{◌≡◌, ◌*◌, ◌≤◌, length, sym, ap, ◌∙◌, arith}
 use mir.Syntax.{w128}
-use Rattle.element.specs.Types.{bits, width}
+use Rattle.word.specs.Types.{bits, width}
 use Rattle.line.specs.Elements.{bytes, splice, put, element}
 use Rattle.line.proofs.Readback.{element-put}
 use Rattle.line.proofs.Rows.{within}

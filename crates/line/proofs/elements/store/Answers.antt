@@ -1,5 +1,5 @@
 use Rattle.std.proofs.Common.{◌%◌, ◌<◌, length, sym, refl, ap, ◌∙◌, arith}
-use Rattle.element.specs.declared.ElementType.TheVariants.{U8, S8, U16, S16, U32, S32, U64, S64}
+use Rattle.word.specs.declared.element.ElementType.TheVariants.{U8, S8, U16, S16, U32, S32, U64, S64}
 use Rattle.line.specs.Elements.{bytes, splice}
 use Rattle.line.proofs.Bytes.{width_is, spliced, spliced_one, lowest_two, lowest_four}
 use Rattle.line.proofs.elements.store.Goals as goal

@@ -1,5 +1,5 @@
 use Rattle.std.proofs.Common.{◌≡◌, ◌+◌, pos, sym, refl, ap, ◌∙◌, add-one, arith}
-use Rattle.element.specs.Types.{bits}
+use Rattle.word.specs.Types.{bits}
 use Rattle.line.specs.Elements.{count, element}
 use Rattle.line.specs.Reductions.{over, gathered}
 use Rattle.line.proofs.reducing.join_as.Goals as goal

@@ -1,5 +1,5 @@
 use Rattle.std.proofs.Common.{◌≡◌, ℤ, pos, ◌+ℤ◌, ap, ◌∙◌}
-use Rattle.element.specs.Types.{bits, width}
+use Rattle.word.specs.Types.{bits, width}
 use Rattle.line.specs.Elements.{count, element}
 use Rattle.line.specs.Vectors.{vector}
 use Rattle.line.proofs.Readback.{element_line}

@@ -1,5 +1,5 @@
 use Rattle.std.proofs.Common.{length, ap, ◌∙◌}
-use Rattle.element.specs.Types.{bits}
+use Rattle.word.specs.Types.{bits}
 use Rattle.line.specs.Elements.{element}
 use Rattle.line.proofs.Rows.{zero_length, made_none, made_more, made_all, residue-applied}
 use Rattle.line.proofs.vectors.apply_as.Goals as goal

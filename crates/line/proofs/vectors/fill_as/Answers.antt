@@ -1,6 +1,6 @@
 use Rattle.std.proofs.Common.{◌≡◌, pos, ap, ◌∙◌}
 use mir.Syntax.{w128}
-use Rattle.element.specs.Types.{bits, width}
+use Rattle.word.specs.Types.{bits, width}
 use Rattle.line.specs.Elements.{count}
 use Rattle.line.proofs.Rows.{row_same}
 use Rattle.line.proofs.vectors.fill_as.Goals as goal

@@ -1,5 +1,5 @@
 use Rattle.std.proofs.Common.{◌≡◌, pos, ap, ◌∙◌}
-use Rattle.element.specs.Types.{bits}
+use Rattle.word.specs.Types.{bits}
 use Rattle.line.proofs.Rows.{made_none, made_more, made_all}
 use Rattle.line.proofs.vectors.fill_lanes.Goals as goal
 use Rattle.scalar.specs.Casts.{residue, cast}

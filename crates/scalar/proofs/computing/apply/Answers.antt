@@ -1,6 +1,6 @@
 use Rattle.std.proofs.Common.{pos, ap, ◌∙◌, ap₂}
 use mir.Syntax.{w128}
-use Rattle.element.specs.Types.{bits}
+use Rattle.word.specs.Types.{bits}
 use Rattle.scalar.proofs.Casts.{cast-residue}
 use Rattle.scalar.specs.Casts.{cast}
 use Rattle.scalar.proofs.computing.apply.Goals as goal

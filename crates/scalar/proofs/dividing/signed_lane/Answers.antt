@@ -1,5 +1,5 @@
 use Rattle.std.proofs.Common.{sym, ap, ◌∙◌, arith}
-use Rattle.element.specs.Types.{bits}
+use Rattle.word.specs.Types.{bits}
 use Rattle.scalar.specs.Arithmetic.{with_sign}
 use Rattle.scalar.specs.Casts.{residue}
 use Rattle.scalar.proofs.Machine.{lane_minus}

@@ -1,6 +1,6 @@
 use Rattle.std.proofs.Common.{◌≡◌, ◌-◌, ◌*◌, ◌%◌, ◌^◌, sym, ap, ◌∙◌, arith, w64, to_z, of_z}
 use lib.Signed.{shr_z}
-use Rattle.element.specs.Types.{bits}
+use Rattle.word.specs.Types.{bits}
 use Rattle.scalar.proofs.Casts.{bits_low, bits_high, extended_bits, lane_signed}
 use Rattle.scalar.proofs.lanes.extend.Goals as goal
 

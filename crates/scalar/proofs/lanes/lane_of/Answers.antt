@@ -1,5 +1,5 @@
 use Rattle.std.proofs.Common.{◌≡◌, ◌%◌, ◌^◌, pos, sym, ap, ◌∙◌}
-use Rattle.element.specs.Types.{bits}
+use Rattle.word.specs.Types.{bits}
 use Rattle.scalar.proofs.Casts.{bits_high, cast-residue, residue_fewer}
 use Rattle.scalar.proofs.Residues.{residue-pos}
 use Rattle.scalar.specs.Casts.{residue, cast}

@@ -1,6 +1,6 @@
 use Rattle.std.proofs.Common.{◌≡◌, ◌-◌, ◌/◌, ◌%◌, ◌^◌, pos, sym, ap, ◌∙◌}
 use lib.Bits.{bit_and}
-use Rattle.element.specs.Types.{bits}
+use Rattle.word.specs.Types.{bits}
 use Rattle.scalar.proofs.Casts.{bits_high, masked, lane_residue, lane_unsigned}
 use Rattle.scalar.proofs.lanes.lowest.Goals as goal
 

@@ -1,5 +1,5 @@
 use Rattle.std.proofs.Common.{◌≡◌, ◌+◌, ◌-◌, ◌*◌, ◌/◌, ◌%◌, ◌^◌, ◌<◌, pos, ap, ◌∙◌, mod-lt, arith, pow_pos}
-use Rattle.element.specs.Types.{bits}
+use Rattle.word.specs.Types.{bits}
 use Rattle.scalar.specs.Arithmetic.{rotate}
 use Rattle.scalar.specs.Casts.{residue}
 use Rattle.scalar.proofs.Machine.{lane_rotate, lane_rotate_all}

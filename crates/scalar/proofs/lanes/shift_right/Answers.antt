@@ -1,7 +1,7 @@
 use Rattle.std.proofs.Common.{◌≡◌, ◌-◌, ◌/◌, ◌%◌, ◌^◌, ◌<◌, ◌≤◌, min, pos, sym, ap, ◌∙◌, ap₂, mod-lt, arith, pow_pos, w64, SFits, to_z, of_z}
 use borrow.Author.Differences.{up, down}
 use lib.Signed.{shr_z, mag_shr}
-use Rattle.element.specs.Types.{bits}
+use Rattle.word.specs.Types.{bits}
 use Rattle.scalar.specs.Arithmetic.{shift_right}
 use Rattle.scalar.specs.Casts.{residue, cast}
 use Rattle.scalar.proofs.Casts.{bits_high, cast_range, lane_unsigned, residue-bits}
