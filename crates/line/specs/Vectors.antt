@@ -3,7 +3,7 @@ use Rattle.std.specs.Prelude.{ℕ, zero, suc, ◌*◌, List, [], ◌++◌, ℤ, 
 use Rattle.word.specs.Types.{width}
 use Rattle.word.specs.declared.element.ElementType.{ElementType}
 use Rattle.line.specs.Elements.{bytes, count, element}
-use Rattle.scalar.specs.Arithmetic.{result}
+use Rattle.scalar.specs.Arithmetic.{computed}
 use Rattle.scalar.specs.Casts.{residue}
 use Rattle.word.specs.declared.opcodes.Arith.{Arith}
 use Rattle.word.specs.declared.opcodes.Arith.TheVariants.{Addr}
@@ -24,8 +24,8 @@ filled t z = line_of t (λ k. z)
 -- The vector form does at each element place what the scalar form does at one. All elements are
 -- those of the lines as they were before.
 abbrev pub vector : Arith → ElementType → List ℕ → List ℕ → List ℕ
-vector op t x y = line_of t (λ k. result op t (element t x k) (element t y k))
+vector op t x y = line_of t (λ k. computed op t (element t x k) (element t y k))
 
 -- Addr adds one address to every element.
 abbrev pub vector_addr : ElementType → ℕ → List ℕ → List ℕ
-vector_addr t address y = line_of t (λ k. result Addr t (pos address) (element t y k))
+vector_addr t address y = line_of t (λ k. computed Addr t (pos address) (element t y k))

@@ -9,19 +9,19 @@ ghost use Rattle.scalar.specs.Casts.{residue};
 
 use crate::elements::{count, lane_at, set_lane};
 use crate::kinds::*;
-use word::ElementType;
 use scalar::dividing::{divide_lanes, is_zero_lane};
+use word::ElementType;
 
 // Whether element k is zero, or another was before.
 fn or_zero_at<T: Kind>(found: bool, line: &[u8; 128], k: usize) -> bool
-    requires { k < lanes kind }
-    ensures { result ≡ (found || unsigned_abs (elementOf kind line.now k) == 0) }
+    requires { k < lanes T.kind }
+    ensures { result ≡ (found || unsigned_abs (elementOf T.kind line.now k) == 0) }
 {
     found | is_zero_lane(T::kind(), lane_at::<T>(line, k))
 }
 
 fn has_zero_as<T: Kind>(line: &[u8; 128]) -> bool
-    ensures { result ≡ any_zero kind line.now }
+    ensures { result ≡ any_zero T.kind line.now }
 {
     let mut found = false;
     for k in 0..count::<T>() {
@@ -46,9 +46,9 @@ fn divide_at<T: Kind>(
     remainders: &mut [u8; 128],
     k: usize,
 )
-    requires { k < lanes kind }
-    ensures quotients { quotients.new ≡ splice quotients.old (k * width kind) (bytes (width kind) (residue (bits kind) (cut_quotient (elementOf kind x.now k) (elementOf kind y.now k)))) }
-    ensures remainders { remainders.new ≡ splice remainders.old (k * width kind) (bytes (width kind) (residue (bits kind) (cut_remainder (elementOf kind x.now k) (elementOf kind y.now k)))) }
+    requires { k < lanes T.kind }
+    ensures quotients { quotients.new ≡ splice quotients.old (k * width T.kind) (bytes (width T.kind) (residue (bits T.kind) (cut_quotient (elementOf T.kind x.now k) (elementOf T.kind y.now k)))) }
+    ensures remainders { remainders.new ≡ splice remainders.old (k * width T.kind) (bytes (width T.kind) (residue (bits T.kind) (cut_remainder (elementOf T.kind x.now k) (elementOf T.kind y.now k)))) }
 {
     let made = divide_lanes(T::kind(), lane_at::<T>(x, k), lane_at::<T>(y, k));
     set_lane::<T>(quotients, k, made.quotient);
@@ -61,8 +61,8 @@ fn divide_as<T: Kind>(
     quotients: &mut [u8; 128],
     remainders: &mut [u8; 128],
 )
-    ensures quotients { quotients.new ≡ quotient_line kind x.now y.now }
-    ensures remainders { remainders.new ≡ remainder_line kind x.now y.now }
+    ensures quotients { quotients.new ≡ quotient_line T.kind x.now y.now }
+    ensures remainders { remainders.new ≡ remainder_line T.kind x.now y.now }
 {
     for k in 0..count::<T>() {
         divide_at::<T>(x, y, quotients, remainders, k);

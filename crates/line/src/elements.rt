@@ -8,8 +8,8 @@ ghost use Rattle.scalar.specs.Casts.{cast};
 
 use crate::kinds::*;
 use crate::places::Place;
-use word::ElementType;
 use scalar::lanes::{lane, value};
+use word::ElementType;
 
 // The zero line.
 pub fn zeros() -> [u8; 128]
@@ -20,15 +20,15 @@ pub fn zeros() -> [u8; 128]
 
 // How many elements of a type a line has.
 pub(crate) fn count<T: Kind>() -> usize
-    ensures { result ≡ lanes kind }
+    ensures { result ≡ lanes T.kind }
 {
     128 / T::kind().width()
 }
 
 // The number of the bytes from a place on, as many as the type has.
 fn load<T: Kind>(line: &[u8; 128], p: usize) -> u64
-    requires { p + width kind ≤ 128 }
-    ensures { result ≡ number (width kind) line.now p }
+    requires { p + width T.kind ≤ 128 }
+    ensures { result ≡ number (width T.kind) line.now p }
 {
     match T::kind() {
         ElementType::U8 | ElementType::S8 => line[p] as u64,
@@ -51,8 +51,8 @@ fn load<T: Kind>(line: &[u8; 128], p: usize) -> u64
 
 // Writes the lowest bytes of v from a place on, as many as the type has.
 fn store<T: Kind>(line: &mut [u8; 128], p: usize, v: u64)
-    requires { p + width kind ≤ 128 }
-    ensures { line.new ≡ splice line.old p (bytes (width kind) v) }
+    requires { p + width T.kind ≤ 128 }
+    ensures { line.new ≡ splice line.old p (bytes (width T.kind) v) }
 {
     match T::kind() {
         ElementType::U8 | ElementType::S8 => line[p] = (v % 256) as u8,
@@ -68,44 +68,44 @@ fn store<T: Kind>(line: &mut [u8; 128], p: usize, v: u64)
 
 // Where element k begins.
 fn begin<T: Kind>(k: usize) -> usize
-    requires { k < lanes kind }
-    ensures { (result ≡ k * width kind) × (result + width kind ≤ 128) }
+    requires { k < lanes T.kind }
+    ensures { (result ≡ k * width T.kind) × (result + width T.kind ≤ 128) }
 {
     k * T::kind().width()
 }
 
 // The lane of element k.
 pub(crate) fn lane_at<T: Kind>(line: &[u8; 128], k: usize) -> u64
-    requires { k < lanes kind }
-    ensures { cast kind (pos result) ≡ elementOf kind line.now k }
+    requires { k < lanes T.kind }
+    ensures { cast T.kind (pos result) ≡ elementOf T.kind line.now k }
 {
     load::<T>(line, begin::<T>(k))
 }
 
 // Writes the lane of element k.
 pub(crate) fn set_lane<T: Kind>(line: &mut [u8; 128], k: usize, v: u64)
-    requires { k < lanes kind }
-    ensures { line.new ≡ splice line.old (k * width kind) (bytes (width kind) v) }
+    requires { k < lanes T.kind }
+    ensures { line.new ≡ splice line.old (k * width T.kind) (bytes (width T.kind) v) }
 {
     store::<T>(line, begin::<T>(k), v)
 }
 
 // The number of the element at a place.
 fn number_at<T: Kind>(place: Place) -> usize
-    ensures { (result ≡ element_number kind place) × (result < lanes kind) }
+    ensures { (result ≡ element_number T.kind place) × (result < lanes T.kind) }
 {
     place.offset() / T::kind().width()
 }
 
 fn get_as<T: Kind>(line: &[u8; 128], place: Place) -> i128
-    ensures { result ≡ elementOf kind line.now (element_number kind place) }
+    ensures { result ≡ elementOf T.kind line.now (element_number T.kind place) }
 {
     value(T::kind(), lane_at::<T>(line, number_at::<T>(place)))
 }
 
 fn put_as<T: Kind>(line: &mut [u8; 128], place: Place, z: i128)
-    ensures written { line.new ≡ replaced (width kind) line.old (element_number kind place) z }
-    ensures read { elementOf kind line.new (element_number kind place) ≡ cast kind z }
+    ensures written { line.new ≡ replaced (width T.kind) line.old (element_number T.kind place) z }
+    ensures read { elementOf T.kind line.new (element_number T.kind place) ≡ cast T.kind z }
 {
     set_lane::<T>(line, number_at::<T>(place), lane(T::kind(), z))
 }

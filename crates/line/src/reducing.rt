@@ -8,22 +8,21 @@ ghost use Rattle.word.specs.declared.opcodes.Reduction.TheVariants.{Add as AddOf
 
 use crate::elements::{count, lane_at};
 use crate::kinds::*;
-use word::ElementType;
 use scalar::lanes::{convert, value};
 use scalar::operations::*;
-use word::Reduction;
+use word::{ElementType, Reduction};
 
 // Joins element k of a line of kind S, cast to kind D, to the lane of what came before.
 fn join_at<D: Kind, S: Kind, O: Operation>(all: u64, line: &[u8; 128], k: usize) -> u64
-    requires { k < lanes S.Kind.kind }
-    ensures { result ≡ residue (bits D.Kind.kind) (make (bits D.Kind.kind) (cast D.Kind.kind (pos all)) (cast D.Kind.kind (elementOf S.Kind.kind line.now k))) }
+    requires { k < lanes S.kind }
+    ensures { result ≡ residue (bits D.kind) (O.make (bits D.kind) (cast D.kind (pos all)) (cast D.kind (elementOf S.kind line.now k))) }
 {
     let next = convert(S::kind(), D::kind(), lane_at::<S>(line, k));
     O::apply(D::kind(), all, next)
 }
 
 fn join_as<S: Kind, D: Kind, O: Operation>(first: u64, line: &[u8; 128]) -> u64
-    ensures { cast D.Kind.kind (pos result) ≡ gathered make D.Kind.kind (elementOf S.Kind.kind line.now) (cast D.Kind.kind (pos first)) (lanes S.Kind.kind) }
+    ensures { cast D.kind (pos result) ≡ gathered O.make D.kind (elementOf S.kind line.now) (cast D.kind (pos first)) (lanes S.kind) }
 {
     let mut all = first;
     for k in 0..count::<S>() {
@@ -33,20 +32,20 @@ fn join_as<S: Kind, D: Kind, O: Operation>(first: u64, line: &[u8; 128]) -> u64
 }
 
 fn join_to<D: Kind, O: Operation>(from: ElementType, first: u64, line: &[u8; 128]) -> i128
-    ensures { result ≡ gathered make kind (elementOf from line.now) (cast kind (pos first)) (lanes from) }
+    ensures { result ≡ gathered O.make D.kind (elementOf from line.now) (cast D.kind (pos first)) (lanes from) }
 {
     value(D::kind(), by_kind!(from, join_as, D, O; first, line))
 }
 
 // Joins every element of a line by one operation, beginning with a lane.
 fn join<O: Operation>(to: ElementType, from: ElementType, first: u64, line: &[u8; 128]) -> i128
-    ensures { result ≡ gathered make to (elementOf from line.now) (cast to (pos first)) (lanes from) }
+    ensures { result ≡ gathered O.make to (elementOf from line.now) (cast to (pos first)) (lanes from) }
 {
     by_kind!(to, join_to, O; from, first, line)
 }
 
 fn first_as<S: Kind>(to: ElementType, line: &[u8; 128]) -> u64
-    ensures { cast to (pos result) ≡ cast to (elementOf kind line.now 0) }
+    ensures { cast to (pos result) ≡ cast to (elementOf S.kind line.now 0) }
 {
     convert(S::kind(), to, lane_at::<S>(line, 0))
 }

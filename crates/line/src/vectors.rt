@@ -11,22 +11,21 @@ ghost use Rattle.scalar.specs.Casts.{residue};
 
 use crate::elements::{count, lane_at, set_lane, zeros};
 use crate::kinds::*;
-use word::ElementType;
 use scalar::lanes::{lane, low};
 use scalar::operations::*;
-use word::Arith;
+use word::{Arith, ElementType};
 
 // Writes what an operation makes of the elements k of x and y to element k of another line.
 fn apply_at<T: Kind, O: Operation>(out: &mut [u8; 128], x: &[u8; 128], y: &[u8; 128], k: usize)
-    requires { k < lanes kind }
-    ensures { out.new ≡ splice out.old (k * width kind) (bytes (width kind) (residue (bits kind) (make (bits kind) (elementOf kind x.now k) (elementOf kind y.now k)))) }
+    requires { k < lanes T.kind }
+    ensures { out.new ≡ splice out.old (k * width T.kind) (bytes (width T.kind) (residue (bits T.kind) (O.make (bits T.kind) (elementOf T.kind x.now k) (elementOf T.kind y.now k)))) }
 {
     let made = O::apply(T::kind(), lane_at::<T>(x, k), lane_at::<T>(y, k));
     set_lane::<T>(out, k, made);
 }
 
 fn apply_as<T: Kind, O: Operation>(x: &[u8; 128], y: &[u8; 128], out: &mut [u8; 128])
-    ensures { out.new ≡ line_of kind (λ k. applied make kind (elementOf kind x.now k) (elementOf kind y.now k)) }
+    ensures { out.new ≡ line_of T.kind (λ k. applied O.make T.kind (elementOf T.kind x.now k) (elementOf T.kind y.now k)) }
 {
     let mut made = zeros();
     for k in 0..count::<T>() {
@@ -37,7 +36,7 @@ fn apply_as<T: Kind, O: Operation>(x: &[u8; 128], y: &[u8; 128], out: &mut [u8; 
 
 // One operation on every pair of elements of two lines.
 pub fn apply<O: Operation>(kind: ElementType, x: &[u8; 128], y: &[u8; 128], out: &mut [u8; 128])
-    ensures { out.new ≡ line_of kind (λ k. applied make kind (elementOf kind x.now k) (elementOf kind y.now k)) }
+    ensures { out.new ≡ line_of kind (λ k. applied O.make kind (elementOf kind x.now k) (elementOf kind y.now k)) }
 {
     by_kind!(kind, apply_as, O; x, y, out)
 }
@@ -64,7 +63,7 @@ pub fn vector(op: Arith, kind: ElementType, x: &[u8; 128], y: &[u8; 128], out: &
 
 // Writes one lane to every element of a line.
 fn fill_lanes<T: Kind>(v: u64, out: &mut [u8; 128])
-    ensures { out.new ≡ filled kind (pos v) }
+    ensures { out.new ≡ filled T.kind (pos v) }
 {
     for k in 0..count::<T>() {
         set_lane::<T>(out, k, low(T::kind(), v));
@@ -72,7 +71,7 @@ fn fill_lanes<T: Kind>(v: u64, out: &mut [u8; 128])
 }
 
 fn fill_as<T: Kind>(z: i128, out: &mut [u8; 128])
-    ensures { out.new ≡ filled kind z }
+    ensures { out.new ≡ filled T.kind z }
 {
     fill_lanes::<T>(lane(T::kind(), z), out)
 }

@@ -54,8 +54,8 @@ compute Addr n x y = x +ℤ y
 abbrev pub applied : (ℕ → ℤ → ℤ → ℤ) → ElementType → ℤ → ℤ → ℤ
 applied make t x y = cast t (make (bits t) (cast t x) (cast t y))
 
-abbrev pub result : Arith → ElementType → ℤ → ℤ → ℤ
-result op t x y = applied (compute op) t x y
+abbrev pub computed : Arith → ElementType → ℤ → ℤ → ℤ
+computed op t x y = applied (compute op) t x y
 
 -- A number is zero after its cast.
 abbrev pub casts_to_zero : ElementType → ℤ → Bool

@@ -1,22 +1,21 @@
 // The operations of two operands on numbers.
-ghost use Rattle.scalar.specs.Arithmetic.{applied, result};
+ghost use Rattle.scalar.specs.Arithmetic.{applied, computed};
 ghost use Rattle.std.specs.Prelude.{◌≡◌};
 
 use crate::lanes::{lane, value};
 use crate::operations::*;
-use word::ElementType;
-use word::Arith;
+use word::{Arith, ElementType};
 
 // One operation on numbers of any types, which are cast to the type.
 fn apply<O: Operation>(kind: ElementType, x: i128, y: i128) -> i128
-    ensures* { λ r. ⌜ r ≡ applied make kind x y ⌝ }
+    ensures { result ≡ applied O.make kind x y }
 {
     value(kind, O::apply(kind, lane(kind, x), lane(kind, y)))
 }
 
 // What an operation of two operands gives at a type. For addr, x is the address.
 pub fn compute(op: Arith, kind: ElementType, x: i128, y: i128) -> i128
-    ensures* { λ r. ⌜ r ≡ result op kind x y ⌝ }
+    ensures { result ≡ computed op kind x y }
 {
     match op {
         Arith::Add => apply::<Add>(kind, x, y),
