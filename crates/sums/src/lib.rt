@@ -3,12 +3,14 @@
 #![tactic(auto)]
 
 ghost use Rattle.std.specs.Prelude.{◌≡◌};
-ghost use Rattle.sums.specs.Table.{table};
+ghost use Rattle.sums.specs.Table.{table, arithmetic_table};
 
 mod rows;
 
-pub use rows::Sums;
-use word::{Operation, decode};
+use line::{fill, reduce, zeros};
+pub use rows::{ArithmeticSums, Sums};
+use scalar::{Division, cast, compute, divide};
+use word::{Arith, ElementType, Operation, Reduction, decode};
 
 // Asks every question of the table.
 pub fn sums() -> Sums
@@ -17,6 +19,19 @@ pub fn sums() -> Sums
     Sums {
         load: load(),
         unused_field: unused_field(),
+    }
+}
+
+// The same of the arithmetic of numbers and lines.
+pub fn arithmetic_sums() -> ArithmeticSums
+    ensures { result ≡ arithmetic_table }
+{
+    ArithmeticSums {
+        cast: cast_s8(),
+        division: division(),
+        shift: shift(),
+        rotation: rotation(),
+        sum: sum(),
     }
 }
 
@@ -30,4 +45,36 @@ fn unused_field() -> Option<Operation>
     ensures { result ≡ table.unused_field }
 {
     decode(0x0000_0020)
+}
+
+fn cast_s8() -> i128
+    ensures { result ≡ arithmetic_table.cast }
+{
+    cast(ElementType::S8, 200)
+}
+
+fn division() -> Option<Division>
+    ensures { result ≡ arithmetic_table.division }
+{
+    divide(ElementType::S8, -7, 2)
+}
+
+fn shift() -> i128
+    ensures { result ≡ arithmetic_table.shift }
+{
+    compute(Arith::Shr, ElementType::S8, -1, 9)
+}
+
+fn rotation() -> i128
+    ensures { result ≡ arithmetic_table.rotation }
+{
+    compute(Arith::Rol, ElementType::U8, 0x81, 9)
+}
+
+fn sum() -> i128
+    ensures { result ≡ arithmetic_table.sum }
+{
+    let mut fives = zeros();
+    fill(ElementType::U16, 5, &mut fives);
+    reduce(Reduction::Add, ElementType::U8, ElementType::U16, &fives)
 }
