@@ -3,11 +3,10 @@
 // examples/edge_values.py works out from the rules alone. It uses `scalar` and `line` for the answers.
 #![tactic(auto)]
 
-use word::ElementType;
 use line::{Place, divide_lines, fill, get, has_zero, put, reduce, vector, vector_addr, zeros};
 use scalar::{cast, compute, divide};
 use std::io;
-use word::{Arith, Reduction};
+use word::{Arith, ElementType, Reduction};
 
 const KINDS: [ElementType; 8] = [
     ElementType::U8,

@@ -1,11 +1,11 @@
 -- Bytes and the numbers that they make, in a line of any length.
-use Rattle.std.proofs.Common.{◌≡◌, ℕ, zero, suc, ◌+◌, ◌-◌, ◌*◌, ◌/◌, ◌%◌, ◌^◌, ◌<◌, ◌≤◌, ◌≢◌, ◌⊎◌, List, [], ◌∷◌, ◌++◌, length, get_or, take, drop, set, sym, refl, ap, ◌∙◌, ⊎_elim, add-one, arith}
+use Rattle.std.proofs.Common.{◌≡◌, ℕ, zero, suc, ◌+◌, ◌/◌, ◌%◌, ◌^◌, ◌<◌, ◌≤◌, ◌⊎◌, List, [], ◌∷◌, ◌++◌, length, take, drop, set, sym, refl, ap, ◌∙◌, ⊎_elim, add-one, arith}
 use borrow.Rule.Slice.PartMut.{put_mid}
 use lib.Pow.{field, mod-mod-pow}
 use Rattle.word.specs.Types.{width}
 use Rattle.word.specs.declared.element.ElementType.{ElementType}
-use Rattle.line.specs.Elements.{number, bytes, splice}
-use Rattle.std.proofs.lemmas.List.{append_assoc, length-append, length-take-le, length-drop, length_push, take_at, take-append-le, drop-drop, set_split, get_or_append_left, get_or-append_right, get_or-take, get_or-drop, get_or_push}
+use Rattle.line.specs.Elements.{bytes, splice}
+use Rattle.std.proofs.lemmas.List.{append_assoc, length-append, length-take-le, length-drop, length_push, take_at, drop-drop, set_split}
 
 -- the width of a type that is one of two
 pub width_is : (t s u v : ElementType) (w : ℕ) → t ≡ s → (t ≡ u) ⊎ (t ≡ v) → width u ≡ w → width v ≡ w → width s ≡ w

@@ -1,5 +1,5 @@
 -- Lines that are written element by element.
-use Rattle.std.proofs.Common.{◌≡◌, ℕ, zero, suc, ◌+◌, ◌*◌, ◌/◌, ◌<◌, ◌≤◌, List, [], ◌++◌, length, take, ℤ, pos, sym, refl, ap, ◌∙◌, ap₂, add-mul, zero-mul, add-one, arith}
+use Rattle.std.proofs.Common.{◌≡◌, ℕ, zero, suc, ◌+◌, ◌*◌, ◌<◌, ◌≤◌, List, ◌++◌, length, take, ℤ, sym, refl, ap, ◌∙◌, ap₂, add-mul, zero-mul, add-one, arith}
 use Rattle.word.specs.Types.{bits, width}
 use Rattle.word.specs.declared.element.ElementType.{ElementType}
 use Rattle.word.specs.declared.element.ElementType.TheVariants.{U8, S8, U16, S16, U32, S32, U64, S64}

@@ -1,7 +1,7 @@
 // Lines of 128 bytes as rows of elements: reading and writing one element, the operations on every
 // element of a line, and the reductions of a line to one number. A loop over a line is compiled for
-// one type and one operation. It uses `element` for the types, `word` for the names of the
-// operations, and `scalar` for the arithmetic of one element.
+// one type and one operation. It uses `word` for the types and the names of the operations, and
+// `scalar` for the arithmetic of one element.
 #![tactic(auto)]
 
 mod dividing;

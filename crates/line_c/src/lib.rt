@@ -11,11 +11,10 @@ ghost use Rattle.word.specs.declared.opcodes.Arith.TheVariants.{Add as AddOf, Mu
 ghost use Rattle.word.specs.declared.opcodes.Reduction.TheVariants.{Add as Sum};
 ghost use Rattle.std.specs.Prelude.{cond, ◌≡◌};
 
-use word::ElementType;
 use line::{apply, divide_lines, has_zero, reduce};
 use scalar::lanes::lane;
 use scalar::operations::*;
-use word::Reduction;
+use word::{ElementType, Reduction};
 
 // out becomes x + y at every element.
 #[unsafe(no_mangle)]

@@ -1,17 +1,17 @@
 -- The laws of casts, over any width and sign.
-use Rattle.std.proofs.Common.{◌≡◌, ℕ, zero, suc, ◌+◌, ◌-◌, ◌*◌, ◌/◌, ◌%◌, ◌^◌, ◌<◌, ◌≤◌, Bool, true, false, cond, leb, ℤ, pos, negsuc, ◌+ℤ◌, ◌-ℤ◌, neg_ℤ, nat_abs, sym, refl, ap, ◌∙◌, subst, mul-le-mul_right, mod-lt, mod-eq_of_lt, mul_assoc, suc-mul, add-mul, arith, pow_pos, pow_mono, pow-add, w8, w16, w32, w64, SFits, to_z, of_z, le-ltb, leb-false, leb-true}
-use borrow.Author.Differences.{up, down, same_in, same_out, sum_is_lem, neg_is, ints}
+use Rattle.std.proofs.Common.{◌≡◌, ℕ, zero, suc, ◌+◌, ◌-◌, ◌*◌, ◌/◌, ◌%◌, ◌^◌, ◌<◌, ◌≤◌, Bool, true, false, cond, leb, ℤ, pos, negsuc, ◌+ℤ◌, ◌-ℤ◌, neg_ℤ, nat_abs, sym, refl, ap, ◌∙◌, mul-le-mul_right, mod-lt, mod-eq_of_lt, mul_assoc, suc-mul, add-mul, arith, pow_pos, pow_mono, pow-add, w8, w16, w32, w64, SFits, to_z, of_z, le-ltb, leb-false, leb-true}
+use borrow.Author.Differences.{up, down, same_in, sum_is_lem, ints}
 use lib.Bits.{bit_and}
 use lib.Pow.{ones_split, ones_lt, high, mod-mod-pow, mod-pow-add, shl-shr}
 use Rattle.std.proofs.lemmas.Nat.{and_mask}
 use Rattle.std.proofs.lemmas.Int.{to_z-of_z, to_z_pos}
 use Rattle.std.proofs.lemmas.Bool.{cond-true, cond-false, lt-leb, le-leb}
-use lib.Signed.{mag, shr_z, mag_shr}
+use lib.Signed.{shr_z, mag_shr}
 use mir.Syntax.{Width, w128}
 use mir.Val as val
 use mir.Val.{hbits, sel}
-use native.Mathlib.Nat.{mod-le, mod-mod, mul-mod_left}
-use Rattle.word.specs.Types.{bits, width, signed}
+use native.Mathlib.Nat.{mod-le, mul-mod_left}
+use Rattle.word.specs.Types.{bits, signed}
 use Rattle.word.specs.declared.element.ElementType.{ElementType}
 use Rattle.word.specs.declared.element.ElementType.TheVariants.{U8, S8, U16, S16, U32, S32, U64, S64}
 use Rattle.scalar.specs.Arithmetic.{cut_remainder}

@@ -1,6 +1,6 @@
 -- What machine arithmetic on 64 bits makes of lanes, over any type.
-use Rattle.std.proofs.Common.{◌≡◌, ℕ, zero, suc, ◌+◌, ◌-◌, ◌*◌, ◌/◌, ◌%◌, ◌^◌, ◌<◌, ◌≤◌, min, Bool, true, false, cond, ltb, ℤ, pos, negsuc, ◌+ℤ◌, ◌-ℤ◌, ◌*ℤ◌, neg_ℤ, sym, refl, ap, ◌∙◌, ap₂, arith, pow_mono, pow-add, shr-shr, ltb-false, ltb-true, le-ltb, lt-ltb}
-use borrow.Author.Differences.{up, down, same_in, same_out, sum_is_lem, neg_is, ints}
+use Rattle.std.proofs.Common.{◌≡◌, ℕ, ◌+◌, ◌-◌, ◌*◌, ◌/◌, ◌%◌, ◌^◌, ◌<◌, ◌≤◌, min, Bool, true, false, cond, ltb, ℤ, pos, negsuc, ◌+ℤ◌, ◌-ℤ◌, ◌*ℤ◌, neg_ℤ, sym, refl, ap, ◌∙◌, ap₂, arith, pow_mono, pow-add, shr-shr, ltb-false, ltb-true, le-ltb, lt-ltb}
+use borrow.Author.Differences.{up, down, ints}
 use lib.Bits.{bit_and, bit_or, bit_xor}
 use lib.Pow.{shr_le}
 use lib.Signed.{lt_z, shr_z}

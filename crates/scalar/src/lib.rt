@@ -1,7 +1,7 @@
 // The arithmetic of single numbers: casts to the types of elements, the operations of two operands,
 // and division with its remainder. Numbers go in and out as i128, which holds every type. Below
 // that lies `lanes`, arithmetic on the bits of one element, which the vector forms use too. It uses
-// `element` for the types and `word` for the names of the operations.
+// `word` for the types and the names of the operations.
 #![tactic(auto)]
 
 mod computing;

@@ -1,4 +1,4 @@
-// The table of worked sums: small questions to the crates below, each with the answer that the rules
+// The tables of worked sums: small questions to the crates below, each with the answer that the rules
 // give, worked out by hand and proved. It uses the crates whose answers it holds.
 #![tactic(auto)]
 
@@ -12,7 +12,7 @@ pub use rows::{ArithmeticSums, Sums};
 use scalar::{Division, cast, compute, divide};
 use word::{Arith, ElementType, Operation, Reduction, decode};
 
-// Asks every question of the table.
+// Asks every question of the table of words.
 pub fn sums() -> Sums
     ensures { result ≡ table }
 {

@@ -1,4 +1,4 @@
-use Rattle.std.proofs.Common.{◌≡◌, eqb, sym, ◌∙◌, ap₂, eqb-true}
+use Rattle.std.proofs.Common.{eqb, sym, ◌∙◌, ap₂, eqb-true}
 use Rattle.word.specs.Types.{width}
 use Rattle.line.proofs.Readback.{recast}
 use Rattle.line.proofs.elements.equal_widths.Goals as goal

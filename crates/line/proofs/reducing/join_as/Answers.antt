@@ -1,4 +1,4 @@
-use Rattle.std.proofs.Common.{◌≡◌, ◌+◌, pos, sym, refl, ap, ◌∙◌, add-one, arith}
+use Rattle.std.proofs.Common.{◌≡◌, pos, sym, refl, ap, ◌∙◌, add-one, arith}
 use Rattle.word.specs.Types.{bits}
 use Rattle.line.specs.Elements.{count, element}
 use Rattle.line.specs.Reductions.{over, gathered}

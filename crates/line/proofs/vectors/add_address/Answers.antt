@@ -1,4 +1,4 @@
-use Rattle.std.proofs.Common.{◌≡◌, ℤ, pos, ◌+ℤ◌, ap, ◌∙◌}
+use Rattle.std.proofs.Common.{ℤ, pos, ◌+ℤ◌, ap, ◌∙◌}
 use Rattle.word.specs.Types.{bits, width}
 use Rattle.line.specs.Elements.{count, element}
 use Rattle.line.specs.Vectors.{vector}

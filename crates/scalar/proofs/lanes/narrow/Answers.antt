@@ -1,4 +1,4 @@
-use Rattle.std.proofs.Common.{pos, sym, ap, ◌∙◌}
+use Rattle.std.proofs.Common.{pos, ap, ◌∙◌}
 use Rattle.scalar.proofs.Casts.{bits_high, cast-cast, cast-residue, cast_fewer}
 use Rattle.scalar.specs.Casts.{cast}
 use Rattle.scalar.proofs.lanes.narrow.Goals as goal

@@ -1,4 +1,4 @@
-use Rattle.std.proofs.Common.{◌≡◌, ◌*◌, ◌%◌, ◌^◌, ◌<◌, ◌≤◌, ap, ◌∙◌, mod-eq_of_lt, arith}
+use Rattle.std.proofs.Common.{◌*◌, ◌%◌, ◌^◌, ◌<◌, ◌≤◌, ap, ◌∙◌, mod-eq_of_lt, arith}
 use Rattle.word.specs.Types.{bits}
 use Rattle.scalar.proofs.Machine.{lane_shl, lane_shl_past}
 use Rattle.scalar.proofs.lanes.shift_left.Goals as goal

@@ -1,5 +1,4 @@
-use Rattle.std.proofs.Common.{◌≡◌, ◌-◌, ◌/◌, ◌%◌, ◌^◌, ◌<◌, ◌≤◌, min, pos, sym, ap, ◌∙◌, ap₂, mod-lt, arith, pow_pos, w64, SFits, to_z, of_z}
-use borrow.Author.Differences.{up, down}
+use Rattle.std.proofs.Common.{◌≡◌, ◌-◌, ◌%◌, ◌^◌, ◌<◌, ◌≤◌, min, pos, sym, ap, ◌∙◌, ap₂, mod-lt, arith, pow_pos, w64, SFits, to_z, of_z}
 use lib.Signed.{shr_z, mag_shr}
 use Rattle.word.specs.Types.{bits}
 use Rattle.scalar.specs.Arithmetic.{shift_right}

@@ -1,4 +1,4 @@
-use Rattle.std.proofs.Common.{◌≡◌, ◌%◌, ◌^◌, ◌<◌, pos, sym, ap, ◌∙◌, mod-eq_of_lt, arith, w64, SFits, of_z}
+use Rattle.std.proofs.Common.{◌≡◌, ◌%◌, ◌^◌, sym, ap, ◌∙◌, mod-eq_of_lt, arith, w64, SFits, of_z}
 use Rattle.scalar.proofs.Casts.{residue-bits}
 use Rattle.scalar.proofs.Residues.{residue_small}
 use Rattle.scalar.specs.Casts.{residue}
