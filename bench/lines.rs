@@ -1,5 +1,5 @@
 // Elements per second of the vector forms and of add.r: the proved library beside plain Rust that
-// does the same, and a comparison of what both leave. `bench/lines` builds and runs it.
+// does the same, and a comparison of what both leave. `bench/lines.sh` builds and runs it.
 use std::hint::black_box;
 use std::time::Instant;
 

@@ -4,7 +4,8 @@
 usage: python3 tools/respell.py        at the top of the repository, once, after the toolchain's port.py
 
 Functions and lemmas are in snake case, facts and types in upper camel case; a dash stays in a lemma
-that joins two names. It rewrites contracts, specs/, proofs/ and pages, and no name of the code.
+that joins two names. It rewrites contracts, specs/, proofs/ and pages, and no name of the code; then it
+lays out every crate (`rt fmt`). The page on the port, which sets old names beside new ones, it leaves.
 """
 
 import os
@@ -71,7 +72,7 @@ def files():
     for folder, dirs, names in os.walk("."):
         dirs[:] = sorted(d for d in dirs if d not in ("out", "target", ".git", "tools", "data"))
         for n in sorted(names):
-            if n.endswith((".rt", ".antt", ".md")):
+            if n.endswith((".rt", ".antt", ".md")) and n != "PORT.md":
                 yield os.path.join(folder, n)
 
 
