@@ -1,5 +1,5 @@
 // The bench: the stores that programs run on, and the file that they are loaded from. It reads
-// image file and prints nothing. It uses `store` for the stores and `survey` for loading an image.
+// the image file and prints nothing. It uses `store` for the stores and `survey` for loading an image.
 #![tactic(auto)]
 
 mod file;

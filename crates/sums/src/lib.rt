@@ -22,7 +22,7 @@ pub fn sums() -> Sums
     }
 }
 
-// The same of the arithmetic of numbers and lines.
+// Asks every question of the table of arithmetic.
 pub fn arithmetic_sums() -> ArithmeticSums
     ensures { result ≡ arithmetic_table }
 {
