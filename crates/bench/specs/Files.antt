@@ -1,15 +1,22 @@
--- What loading from a file answers and leaves.
-use Rattle.std.specs.Prelude.{◌≡◌, ℕ, List, take, Ok, Err, Result}
-use Rattle.std.specs.declared.alloc.AllocError.{AllocError}
+-- What loading from a reader or a file answers and leaves.
+use Rattle.std.specs.Prelude.{◌≡◌, ℕ, ◌≤◌, List, length, take, Ok, Err, Result, None, Option, IfSome}
 use Rattle.store.specs.Meaning.{Meaning}
-use Rattle.survey.specs.declared.outcome.Outcome.{Outcome}
-use Rattle.survey.specs.declared.outcome.Outcome.TheVariants.{Missing, Unreadable, Taken, Refused}
 use Rattle.survey.specs.Outcomes.{Takes}
+use Rattle.bench.specs.declared.fault.FileFault.{FileFault}
+use Rattle.bench.specs.declared.fault.FileFault.TheVariants.{Missing, Unreadable, OutOfMemory, Refused}
 
--- With no file that can be read, or for want of memory, the store is as it was. Else the store takes the first 65,536 of some bytes as an image, or refuses them.
-abbrev pub LoadsFile : Meaning → Result Outcome AllocError → Meaning → Type 0
-LoadsFile m (Err e) after = after ≡ m
-LoadsFile m (Ok Missing) after = after ≡ m
-LoadsFile m (Ok Unreadable) after = after ≡ m
-LoadsFile m (Ok (Taken count)) after = (bytes : List ℕ) × Takes m (take 65536 bytes) (Taken count) after
-LoadsFile m (Ok (Refused fault)) after = (bytes : List ℕ) × Takes m (take 65536 bytes) (Refused fault) after
+-- An image of at most so many bytes. Where it is known which bytes a reader gives, they are the first of these.
+abbrev pub IsFront : ℕ → Option (List ℕ) → List ℕ → Type 0
+IsFront most known image = (length image ≤ most) × IfSome known (λ given. image ≡ take most given)
+
+-- The store takes the first 65,536 of a reader's bytes as an image, or refuses them. Where the reader fails, or for want of memory, it is as it was.
+abbrev pub LoadsFrom : Meaning → Option (List ℕ) → Result ℕ FileFault → Meaning → Type 0
+LoadsFrom m known (Ok count) after = (image : List ℕ) × IsFront 65536 known image × Takes m image (Ok count) after
+LoadsFrom m known (Err (Refused fault)) after = (image : List ℕ) × IsFront 65536 known image × Takes m image (Err fault) after
+LoadsFrom m known (Err Missing) after = after ≡ m
+LoadsFrom m known (Err Unreadable) after = after ≡ m
+LoadsFrom m known (Err OutOfMemory) after = after ≡ m
+
+-- The same of a file, whose bytes are not known.
+abbrev pub LoadsFile : Meaning → Result ℕ FileFault → Meaning → Type 0
+LoadsFile m result after = LoadsFrom m None result after

@@ -1,9 +1,8 @@
 // The stores of the bench, one on the other.
 ghost use Rattle.std.specs.Prelude.{◌≡◌};
 ghost use Rattle.bench.specs.Stack.{bench_over};
-ghost use Rattle.store.specs.Kinds.{fuse, open_bus, ram, split};
 
-use store::{Fuse, OpenBus, Ram, Split};
+use store::{Fuse, OpenBus, Ram, Split, Store};
 
 // 256 lines of RAM.
 pub const RAM_BYTES: usize = 32_768;
@@ -15,7 +14,7 @@ const OPEN_LINES: u32 = 256;
 
 // Lays the fuse over the RAM, and the open bus above.
 pub fn on_bench<'a>(memory: Ram<'a>) -> Split<Fuse<Ram<'a>>, OpenBus>
-    ensures { split (fuse result.low.below (ram result.low.under.bytes.ghost_name result.low.under.bytes.now)) (open_bus result.high.lines) ≡ bench_over (ram memory.entry.bytes.ghost_name memory.entry.bytes.now) }
+    ensures { ⟦<Split<Fuse<Ram<'a>>, OpenBus> as Store>⟧.meaning result ≡ bench_over (⟦<Ram<'a> as Store>⟧.meaning memory.entry) }
 {
     Split {
         low: Fuse {

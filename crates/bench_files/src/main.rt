@@ -2,22 +2,21 @@
 // many bytes of the bench's RAM each changes. It uses `bench` and `listing`, as `inspect` does.
 #![tactic(auto)]
 
-use bench::{RAM_BYTES, load_file};
+use bench::{FileFault, RAM_BYTES, load_file};
 use listing::OutcomeText;
 use std::io;
+use std::io::ErrorKind;
 use store::Ram;
 
 fn try_file(rt: &HostRuntime, path: &str) -> io::Result<()> {
     let mut memory = vec![in rt.alloc(); 0; RAM_BYTES]?;
     let mut ram = Ram::new(&mut memory);
-    let outcome = OutcomeText(load_file(rt, path, &mut ram)?);
-    println!(rt; "{path}\n{outcome}")?;
-    let mut changed = 0usize;
-    for byte in memory.iter() {
-        if *byte != 0 {
-            changed = changed.saturating_add(1);
-        }
+    match load_file(rt, path, &mut ram) {
+        // as any other want of memory does
+        Err(FileFault::OutOfMemory) => return Err(ErrorKind::OutOfMemory.into()),
+        outcome => println!(rt; "{path}\n{}", OutcomeText(outcome))?,
     }
+    let changed = memory.iter().filter(|byte| **byte != 0).count();
     println!(rt; "bytes changed: {changed}")
 }
 

@@ -60,44 +60,36 @@ const EDGES: [i128; 14] = [
     18446744073709551615,
 ];
 
-// One operation of x with each edge value.
-fn print_row(rt: &HostRuntime, op: Arith, kind: ElementType, x: i128) -> io::Result<()> {
-    print!(rt; "{op:?} {kind:?} {x}:")?;
-    for y in EDGES {
-        let z = compute(op, kind, x, y);
+// What f makes of each edge value.
+fn print_row<F: Fn(i128) -> i128>(rt: &HostRuntime, f: F) -> io::Result<()>
+    requires { F.IsAlwaysCallable f }
+{
+    for x in EDGES {
+        let z = f(x);
         print!(rt; " {z}")?;
     }
     println!(rt; "")
 }
 
+// Not by `print_row`: over zero there is no number to print.
 fn print_divisions(rt: &HostRuntime, kind: ElementType, x: i128) -> io::Result<()> {
     print!(rt; "Div {kind:?} {x}:")?;
     for y in EDGES {
         match divide(kind, x, y) {
-            Some(made) => {
-                let (quotient, remainder) = (made.quotient, made.remainder);
-                print!(rt; " {quotient}r{remainder}")?;
-            }
+            Some(made) => print!(rt; " {}r{}", made.quotient, made.remainder)?,
             None => print!(rt; " zero")?,
         }
     }
     println!(rt; "")
 }
 
-fn print_casts(rt: &HostRuntime, kind: ElementType) -> io::Result<()> {
-    print!(rt; "Cast {kind:?}:")?;
-    for x in EDGES {
-        let z = cast(kind, x);
-        print!(rt; " {z}")?;
-    }
-    println!(rt; "")
-}
-
 fn print_scalars(rt: &HostRuntime, kind: ElementType) -> io::Result<()> {
-    print_casts(rt, kind)?;
+    print!(rt; "Cast {kind:?}:")?;
+    print_row(rt, |x| cast(kind, x))?;
     for op in OPERATIONS {
         for x in EDGES {
-            print_row(rt, op, kind, x)?;
+            print!(rt; "{op:?} {kind:?} {x}:")?;
+            print_row(rt, |y| compute(op, kind, x, y))?;
         }
     }
     for x in EDGES {
@@ -110,7 +102,7 @@ fn print_scalars(rt: &HostRuntime, kind: ElementType) -> io::Result<()> {
 fn set_edges(line: &mut [u8; 128], kind: ElementType, first: usize, stride: usize) {
     for address in 0..128u32 {
         let at = first.wrapping_add(stride.wrapping_mul(address as usize));
-        put(line, kind, Place::of(address), EDGES[at % 14]);
+        put(line, kind, Place::from(address), EDGES[at % EDGES.len()]);
     }
 }
 
@@ -146,9 +138,9 @@ fn print_line_division(rt: &HostRuntime, kind: ElementType) -> io::Result<()> {
     print_line(rt, &quotients)?;
     print!(rt; "Rem.v {kind:?} ")?;
     print_line(rt, &remainders)?;
-    put(&mut y, kind, Place::of(127), 0);
+    put(&mut y, kind, Place::from(127), 0);
     let some = has_zero(kind, &y);
-    let last = get(&y, kind, Place::of(126));
+    let last = get(&y, kind, Place::from(126));
     println!(rt; "Zero.v {kind:?} {some} {last}")
 }
 

@@ -1,7 +1,6 @@
 pub mod Again
 pub mod Checking
 pub mod Fronts
-pub mod Located
 pub mod Outcomes
 pub mod Puts
 pub mod Spans

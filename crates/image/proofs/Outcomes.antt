@@ -1,5 +1,5 @@
 -- An image has one outcome in a store: what is said of it by `Loads` is said of one result and one store only.
-use Rattle.std.proofs.Common.{◌≡◌, ℕ, ◌+◌, true, List, ◌∷◌, drop, Ok, Err, Result, sym, refl, ap, ◌∙◌, subst, ⊎_elim, arith}
+use Rattle.std.proofs.Common.{◌≡◌, ℕ, ◌+◌, true, List, ◌∷◌, drop, Ok, Err, Result, sym, refl, ap, ◌∙◌, subst, ⊎_elim}
 use Rattle.std.proofs.lemmas.Bool.{cases_order, both_ways}
 use Rattle.refusal.specs.declared.Refusal.{Refusal}
 use Rattle.store.specs.Meaning.{Meaning}
@@ -7,54 +7,31 @@ use Rattle.store.specs.Rules.{refused}
 use Rattle.image.specs.declared.fault.Cause.{Cause}
 use Rattle.image.specs.declared.fault.Cause.TheVariants.{Form, Line}
 use Rattle.image.specs.declared.fault.Fault.{Fault}
-use Rattle.image.specs.Format.{places, ends, bad, front, taken, Placed, Image, ended, placed, Malformed, here, behind, later}
+use Rattle.image.specs.Format.{bad, taken, Placed, Image, ended, placed, Malformed, here, behind, later}
 use Rattle.image.specs.Placing.{line_at, FitsIn, Misfits}
 use Rattle.image.specs.Loading.{AllFit, FirstMisfit, this, next, put_all, Faulty, Loads}
-use Rattle.image.proofs.Walks.{image_at_place, image_at_end}
-
--- Two different records do not stand at one front.
-not_end_and_place : (bs : List ℕ) (a : ℕ) (b : List ℕ) → front bs ≡ ends → front bs ≡ places a b → ⊥
-not_end_and_place bs a b e f = let n : ends ≡ places a b = sym e ∙ f in let z : ◌≡◌ {A = ℕ} 0 1 = cc in omega arith
-
-not_end_and_bad : (bs : List ℕ) (r : Refusal) → front bs ≡ ends → front bs ≡ bad r → ⊥
-not_end_and_bad bs r e f = let n : ends ≡ bad r = sym e ∙ f in let z : ◌≡◌ {A = ℕ} 0 1 = cc in omega arith
-
-not_place_and_bad : (bs : List ℕ) (a : ℕ) (b : List ℕ) (r : Refusal) → front bs ≡ places a b → front bs ≡ bad r → ⊥
-not_place_and_bad bs a b r e f = let n : places a b ≡ bad r = sym e ∙ f in let z : ◌≡◌ {A = ℕ} 0 1 = cc in omega arith
-
-same_bytes : (bs : List ℕ) (a c : ℕ) (b d : List ℕ) → front bs ≡ places a b → front bs ≡ places c d → b ≡ d
-same_bytes bs a c b d e f = let n : places a b ≡ places c d = sym e ∙ f in cc
+use Rattle.image.proofs.Walks.{image_at_place, image_at_end, image_sound}
 
 -- The places of an image are determined.
 image_one : {at : ℕ} {bs : List ℕ} {ps : List Placed} (qs : List Placed) → Image at bs ps → Image at bs qs → ps ≡ qs
-image_one {at} {bs} qs (ended e l) v = sym (image_at_end at bs qs (λ a b f. not_end_and_place bs a b e f) v)
+image_one {at} {bs} qs (ended e l) v = sym (image_at_end at bs qs e v)
 image_one {at} {bs} qs (placed {a = a} {b = b} e w) v =
     let step = image_at_place at bs a b qs e v in
     ap (λ l. record { at = at; address = a; bytes = b } ∷ l) (image_one step.0 w step.2) ∙ sym step.1
 
--- An image of whole records has none at fault.
-image_sound : {at : ℕ} {bs : List ℕ} {ps : List Placed} {x : ℕ} {r : Refusal} → Image at bs ps → Malformed at bs x r → ⊥
-image_sound {bs = bs} (ended e l) (here f) = not_end_and_bad bs _ e f
-image_sound {bs = bs} (ended e l) (behind f k) = omega arith
-image_sound {bs = bs} (ended e l) (later f w) = not_end_and_place bs _ _ e f
-image_sound {bs = bs} (placed e v) (here f) = not_place_and_bad bs _ _ _ e f
-image_sound {bs = bs} (placed e v) (behind f k) = not_end_and_place bs _ _ f e
-image_sound {at} {bs} {x = x} {r = r} (placed {a = a} {b = b} e v) (later {a = c} {b = d} f w) =
-    image_sound v (subst (λ y. Malformed (at + taken y) (drop (taken y) bs) x r) (sym (same_bytes bs a c b d e f)) w)
-
 -- The first record at fault is determined.
 malformed_one :
     {at : ℕ} {bs : List ℕ} {x y : ℕ} {r s : Refusal} → Malformed at bs x r → Malformed at bs y s → (x ≡ y) × (r ≡ s)
-malformed_one {bs = bs} {r = r} {s = s} (here e) (here f) = let n : bad r ≡ bad s = sym e ∙ f in (refl, cc)
-malformed_one {bs = bs} (here e) (behind f k) = absurd (not_end_and_bad bs _ f e)
-malformed_one {bs = bs} (here e) (later f w) = absurd (not_place_and_bad bs _ _ _ f e)
-malformed_one {bs = bs} (behind e k) (here f) = absurd (not_end_and_bad bs _ e f)
+malformed_one {r = r} {s = s} (here e) (here f) = let n : bad r ≡ bad s = sym e ∙ f in (refl, cc)
+malformed_one (here e) (behind f k) = absurd cc
+malformed_one (here e) (later f w) = absurd cc
+malformed_one (behind e k) (here f) = absurd cc
 malformed_one (behind e k) (behind f l) = (refl, refl)
-malformed_one {bs = bs} (behind e k) (later f w) = absurd (not_end_and_place bs _ _ e f)
-malformed_one {bs = bs} (later e v) (here f) = absurd (not_place_and_bad bs _ _ _ e f)
-malformed_one {bs = bs} (later e v) (behind f k) = absurd (not_end_and_place bs _ _ f e)
+malformed_one (behind e k) (later f w) = absurd cc
+malformed_one (later e v) (here f) = absurd cc
+malformed_one (later e v) (behind f k) = absurd cc
 malformed_one {at} {bs} {y = y} {s = s} (later {a = a} {b = b} e v) (later {a = c} {b = d} f w) =
-    malformed_one v (subst (λ z. Malformed (at + taken z) (drop (taken z) bs) y s) (sym (same_bytes bs a c b d e f)) w)
+    let same : d ≡ b = cc in malformed_one v (subst (λ z. Malformed (at + taken z) (drop (taken z) bs) y s) same w)
 
 module _ (m : Meaning) where
   -- A place fits or has a first line at fault, and not both; and that line is one.

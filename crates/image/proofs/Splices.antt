@@ -1,8 +1,8 @@
 -- Placed bytes within a row of bytes.
-use Rattle.std.proofs.Common.{◌≡◌, ℕ, zero, suc, ◌+◌, ◌-◌, ◌<◌, ◌≤◌, min, max, ◌&&◌, ltb, leb, List, [], ◌∷◌, ◌++◌, length, get_or, take, drop, sym, refl, ap, ◌∙◌, ⊎_elim, le_of_suc-le-suc, add-zero, arith}
+use Rattle.std.proofs.Common.{◌≡◌, ℕ, zero, suc, ◌+◌, ◌-◌, ◌<◌, ◌≤◌, min, max, List, [], ◌∷◌, ◌++◌, length, get_or, take, drop, sym, refl, ap, ◌∙◌, le_of_suc-le-suc, add-zero, arith}
 use borrow.Rule.Slice.PartMut.{put_mid}
 use Rattle.std.proofs.lemmas.List.{ext_get_or, get_or_append_left, get_or-append_right, get_or-take, get_or-drop, length-append, length-take, length-drop}
-use Rattle.std.proofs.lemmas.Bool.{cases_lt, le-leb, lt-leb, lt-ltb, le-ltb, and_from, and_left, and_right, cond-true, cond-false}
+use Rattle.std.proofs.lemmas.Bool.Decides.{nat_tests}
 use Rattle.image.specs.Placing.{byte_at, spliced}
 
 pub length-spliced : (x : ℕ) (old : List ℕ) (a : ℕ) (b : List ℕ) → length (spliced x old a b) ≡ length old
@@ -16,17 +16,6 @@ get_or-spliced x (o ∷ old) a b (suc i) d h =
     let e : suc x + i ≡ x + suc i = omega arith in
     get_or-spliced (suc x) old a b i d (le_of_suc-le-suc h) ∙ ap (λ n. byte_at n a b (get_or old i d)) e
 
--- A byte that no placed byte covers is as it was, and one that is covered is the placed one.
-pub byte_before : (x a : ℕ) (b : List ℕ) (old : ℕ) → x < a → byte_at x a b old ≡ old
-byte_before x a b old h = cond-false (leb a x && ltb x (a + length b)) (get_or b (x - a) 0) old (and_left (leb a x) (ltb x (a + length b)) (lt-leb a x h))
-
-pub byte_behind : (x a : ℕ) (b : List ℕ) (old : ℕ) → a + length b ≤ x → byte_at x a b old ≡ old
-byte_behind x a b old h = cond-false (leb a x && ltb x (a + length b)) (get_or b (x - a) 0) old (and_right (leb a x) (ltb x (a + length b)) (le-ltb x (a + length b) h))
-
-pub byte_within : (x a : ℕ) (b : List ℕ) (old : ℕ) → a ≤ x → x < a + length b → byte_at x a b old ≡ get_or b (x - a) 0
-byte_within x a b old h k =
-    cond-true (leb a x && ltb x (a + length b)) (get_or b (x - a) 0) old (and_from (leb a x) (ltb x (a + length b)) (le-leb a x h) (lt-ltb x (a + length b) k))
-
 -- Bytes that fall wholly before or behind a row leave it as it was.
 pub spliced_none : (x : ℕ) (old : List ℕ) (a : ℕ) (b : List ℕ) → ((i : ℕ) → i < length old → byte_at (x + i) a b (get_or old i 0) ≡ get_or old i 0) → spliced x old a b ≡ old
 spliced_none x old a b same =
@@ -34,11 +23,7 @@ spliced_none x old a b same =
     (λ i h. let k : i < length old = omega (arith, length-spliced x old a b) in get_or-spliced x old a b i 0 k ∙ same i k)
 
 pub spliced_apart : (x : ℕ) (old : List ℕ) (a : ℕ) (b : List ℕ) → min (a + length b) (x + length old) ≤ max a x → spliced x old a b ≡ old
-spliced_apart x old a b h =
-    spliced_none x old a b
-    (λ i k.
-    ⊎_elim (λ l. byte_before (x + i) a b (get_or old i 0) l)
-    (λ l. byte_behind (x + i) a b (get_or old i 0) (omega arith)) (cases_lt (x + i) a))
+spliced_apart x old a b h = spliced_none x old a b (λ i k. grind (arith, nat_tests))
 
 -- Where they meet the row, the placed bytes from p on and of the row w bytes from place q on are those that meet.
 module _
@@ -84,19 +69,13 @@ module _
 
   over_at : (i : ℕ) → i < length old → get_or over i 0 ≡ byte_at (x + i) a b (get_or old i 0)
   unfolding over rest
-  over_at i h =
-      ⊎_elim (λ l. over_front i l ∙ sym (byte_before (x + i) a b (get_or old i 0) (omega arith)))
-      (λ l.
-      ⊎_elim
-      (λ k.
-      let e : p + (i - q) ≡ x + i - a = omega arith in
-      over_mid i l k ∙ ap (λ n. get_or b n 0) e ∙ sym (byte_within (x + i) a b (get_or old i 0) (omega arith) (omega arith)))
-      (λ k. over_back i k ∙ sym (byte_behind (x + i) a b (get_or old i 0) (omega arith)))
-      (cases_lt i (q + w)))
-      (cases_lt i q)
+  over_at i h = grind (arith, nat_tests, over_front i, over_mid i, over_back i)
 
   pub spliced_meets : put_mid q w old new ≡ spliced x old a b
   unfolding over
   spliced_meets =
       ext_get_or 0 over (spliced x old a b) (over_long ∙ sym (length-spliced x old a b))
       (λ i h. let k : i < length old = omega (arith, over_long) in over_at i k ∙ sym (get_or-spliced x old a b i 0 k))
+
+-- The two cases of splice.
+pub ruleset splice_cases = (spliced_apart, spliced_meets)

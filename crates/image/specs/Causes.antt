@@ -1,10 +1,12 @@
--- Why an image is refused: the refusal with its number, and the line.
-use Rattle.std.specs.Prelude.{ℕ, Ok, Err, Result}
+-- Why an image is refused: the refusal with its number, the line, and how they are printed.
+use Rattle.std.specs.Prelude.{ℕ, List, ◌∷◌, ◌++◌, codes}
+use Rattle.std.specs.Fmt.{decimal}
 use Rattle.refusal.specs.declared.Refusal.{Refusal}
 use Rattle.refusal.specs.declared.Refusal.TheVariants.{Place}
 use Rattle.image.specs.declared.fault.Cause.{Cause}
 use Rattle.image.specs.declared.fault.Cause.TheVariants.{Form, Line}
 use Rattle.image.specs.declared.fault.Fault.{Fault}
+use Rattle.refusal.specs.Numbers.{number}
 
 -- The refusal: that of the record's form, or of a place that does not fit.
 abbrev pub refusal_of : Cause → Refusal
@@ -16,7 +18,6 @@ abbrev pub line_of_fault : Cause → ℕ
 line_of_fault (Form r) = 0
 line_of_fault (Line e) = e.line
 
--- A cause with the byte place of its record.
-abbrev pub located : {X : Type 0} → Result X Cause → ℕ → Result X Fault
-located (Ok x) at = Ok x
-located (Err c) at = Err (record { cause = c; at = at })
+-- The printed fault: x and the refusal's number; on the next line (10 is the newline) the record's byte place, and the line.
+abbrev pub printed : Fault → List ℕ
+printed f = codes "x " ++ decimal (number (refusal_of f.cause)) ++ 10 ∷ codes "record at byte " ++ decimal f.at ++ codes ", line " ++ decimal (line_of_fault f.cause)

@@ -1,5 +1,5 @@
 -- The format of an image: records, each with a 6-byte header (the body's length in 4 bytes, the kind in 2) and a body. Kind 1 places bytes: a 4-byte address, and then the bytes. Kind 2 ends the image and has no body.
-use Rattle.std.specs.Prelude.{◌≡◌, ℕ, ◌+◌, ◌-◌, ◌*◌, ◌<◌, cond, ◌||◌, List, [], ◌∷◌, length, take, drop, ◌==◌, nat_lt, slice_index}
+use Rattle.std.specs.Prelude.{◌≡◌, ℕ, ◌+◌, ◌-◌, ◌*◌, ◌<◌, if◌then◌else◌, ◌||◌, List, [], ◌∷◌, length, take, drop, ◌==◌, nat_lt, slice_index}
 use Rattle.refusal.specs.declared.Refusal.{Refusal}
 use Rattle.refusal.specs.declared.Refusal.TheVariants.{Cut, Kind}
 
@@ -25,18 +25,20 @@ pub data Front : Type 0 where
 -- A place has at least its address in its body, and its body is not cut.
 abbrev pub front_place : List ℕ → Front
 front_place bs =
-    cond (nat_lt (body_length bs) 4 || nat_lt (length bs) (6 + body_length bs)) (bad Cut)
-    (places (four bs 6) (take (body_length bs - 4) (drop 10 bs)))
+    if nat_lt (body_length bs) 4 || nat_lt (length bs) (6 + body_length bs) then bad Cut
+    else places (four bs 6) (take (body_length bs - 4) (drop 10 bs))
 
 -- An end has no body.
 abbrev pub front_end : List ℕ → Front
-front_end bs = cond (body_length bs == 0) ends (bad Kind)
+front_end bs = if body_length bs == 0 then ends else bad Kind
 
 -- A record is checked for its header, then its kind, then its body.
 unfoldable pub front : List ℕ → Front
 front bs =
-    cond (nat_lt (length bs) 6) (bad Cut)
-    (cond (kind bs == 1) (front_place bs) (cond (kind bs == 2) (front_end bs) (bad Kind)))
+    if nat_lt (length bs) 6 then bad Cut
+    else if kind bs == 1 then front_place bs
+    else if kind bs == 2 then front_end bs
+    else bad Kind
 
 -- A place of an image: the byte place where its record begins, the address where its bytes go, and the bytes.
 pub record Placed : Type 0 where

@@ -1,5 +1,6 @@
 -- What loading an image into a store answers, and what the store holds then.
 use Rattle.std.specs.Prelude.{◌≡◌, ℕ, List, [], ◌∷◌, Ok, Err, Result}
+use Rattle.store.specs.declared.fault.LineFault.{LineFault}
 use Rattle.store.specs.Kinds.{fuse, ram}
 use Rattle.store.specs.Meaning.{Meaning}
 use Rattle.store.specs.Rules.{refused}
@@ -25,10 +26,9 @@ put_all m [] = m
 put_all m (p ∷ ps) = put_all (put m p.address p.bytes) ps
 
 -- The store takes every line of a place, or the first that it does not take is at fault, for the store's own reason.
-abbrev pub PlaceChecks : Meaning → ℕ → List ℕ → Result (Unit {0}) Cause → Type 0
+abbrev pub PlaceChecks : Meaning → ℕ → List ℕ → Result (Unit {0}) LineFault → Type 0
 PlaceChecks m a b (Ok _) = FitsIn m a b
-PlaceChecks m a b (Err (Form r)) = ⊥
-PlaceChecks m a b (Err (Line e)) = Misfits m a b e.line × (e ≡ refused m e.line)
+PlaceChecks m a b (Err e) = Misfits m a b e.line × (e ≡ refused m e.line)
 
 -- The image's records are whole, and every place fits.
 abbrev pub Good : Meaning → List ℕ → List Placed → Type 0
@@ -43,11 +43,6 @@ Faulty m image x (Line e) = (ps : List Placed) × Image 0 image ps × FirstMisfi
 abbrev pub PlacesCheck : Meaning → List ℕ → Result (Unit {0}) Fault → Type 0
 PlacesCheck m image (Ok _) = (ps : List Placed) × Good m image ps
 PlacesCheck m image (Err f) = Faulty m image f.at f.cause
-
--- The places of a good image were written.
-abbrev pub Puts : Meaning → List ℕ → Result (Unit {0}) Fault → Meaning → Type 0
-Puts m image (Ok _) after = (ps : List Placed) × Good m image ps × (after ≡ put_all m ps)
-Puts m image (Err f) after = ⊥
 
 -- An accepted image leaves its places written, in order, and nothing else changed. A refused one leaves the store as it was.
 abbrev pub Loads : Meaning → List ℕ → Result (Unit {0}) Fault → Meaning → Type 0

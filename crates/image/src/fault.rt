@@ -1,12 +1,14 @@
 // Why an image is refused, and at which of its records.
-ghost use Rattle.std.specs.Prelude.{◌≡◌};
+ghost use Rattle.std.specs.Prelude.{◌≡◌, Some};
 ghost use Rattle.image.specs.declared.fault.Cause.TheVariants.{Line};
-ghost use Rattle.image.specs.Causes.{refusal_of, line_of_fault, located};
+ghost use Rattle.image.specs.Causes.{refusal_of, line_of_fault, printed};
 
 use refusal::Refusal;
+use std::error::Error;
+use std::fmt;
 use store::LineFault;
 
-#[derive(Clone, Copy)]
+#[derive(Clone, Copy, PartialEq, Eq, Debug)]
 pub enum Cause {
     // the record's header, kind or body
     Form(Refusal),
@@ -14,11 +16,20 @@ pub enum Cause {
     Line(LineFault),
 }
 
-#[derive(Clone, Copy)]
+#[derive(Clone, Copy, PartialEq, Eq, Debug)]
 pub struct Fault {
     pub cause: Cause,
     // the byte place at which the record begins
     pub at: usize,
+}
+
+impl Cause {
+    // The fault of the record that begins at a byte place.
+    pub(crate) fn at(self, at: usize) -> Fault
+        ensures { result ≡ record { cause = self; at = at } }
+    {
+        Fault { cause: self, at }
+    }
 }
 
 impl From<LineFault> for Cause {
@@ -26,16 +37,6 @@ impl From<LineFault> for Cause {
 
     fn from(refused: LineFault) -> Cause {
         Cause::Line(refused)
-    }
-}
-
-// Adds the record's byte place to why it is refused.
-pub(crate) fn locate<T>(res: Result<T, Cause>, at: usize) -> Result<T, Fault>
-    ensures { result ≡ located res at }
-{
-    match res {
-        Ok(value) => Ok(value),
-        Err(cause) => Err(Fault { cause, at }),
     }
 }
 
@@ -49,7 +50,8 @@ impl Fault {
         }
     }
 
-    // The first line at fault, or 0 where no line is.
+    // The first line at fault, or 0 where no line is: the rules of images give a fault a line in each
+    // case, and programs print it.
     pub fn line(&self) -> u32
         ensures { result ≡ line_of_fault self.now.cause }
     {
@@ -59,3 +61,18 @@ impl Fault {
         }
     }
 }
+
+// The refusal as programs answer it, and below it where to look in the image and in the store. (Written
+// out, since its text is promised.)
+impl fmt::Display for Fault {
+    ghost output = { λ fault. Some (printed fault) };
+
+    fn fmt<W: fmt::Write>(&self, f: &mut fmt::Formatter<W>) -> fmt::Result {
+        let number = u8::from(self.refusal());
+        let at = self.at;
+        let line = self.line();
+        write!(f, "x {number}\nrecord at byte {at}, line {line}")
+    }
+}
+
+impl Error for Fault {}

@@ -5,6 +5,7 @@
 mod fault;
 mod lent;
 mod loading;
+mod place;
 mod places;
 mod putting;
 mod record;

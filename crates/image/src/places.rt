@@ -1,44 +1,32 @@
 // The places of an image, checked against the lines that a store takes.
-ghost use Rattle.std.specs.Prelude.{◌≡◌, ◌+◌, ◌/◌, ◌^◌, ◌<◌, List, length};
+ghost use Rattle.std.specs.Prelude.{List};
 ghost use Rattle.image.specs.Format.{Image, Placed};
 ghost use Rattle.image.specs.Loading.{PlaceChecks, PlacesCheck};
-ghost use Rattle.image.specs.Placing.{past_line};
 
-use crate::fault::{Cause, Fault, locate};
-use crate::record::{ADDRESS, HEADER, Place};
-use crate::records::place_at;
-use store::{Store, admit};
+use crate::fault::{Cause, Fault};
+use crate::place::Place;
+use crate::records::Places;
+use store::{LineFault, Store};
 
-// The line behind the last on which a byte of the place falls.
-pub(crate) fn past_line(place: Place<'_>) -> u32
-    requires { length place.bytes.now < 2 ^ 32 }
-    ensures { result ≡ past_line place.entry.address place.entry.bytes.now }
+#[tactic(auto, using(crate::proofs::Spans::span_steps))]
+fn check_place<S: Store>(store: &S, place: Place<'_>) -> Result<(), LineFault>
+    ensures { PlaceChecks (S.meaning store.now) place.entry.address place.entry.bytes.now result }
 {
-    if place.bytes.len() == 0 {
-        return place.address / 128;
-    }
-    ((place.address as usize + place.bytes.len() + 127) / 128) as u32
-}
-
-fn check_place<S: Store>(store: &S, place: Place<'_>) -> Result<(), Cause>
-    requires { length place.bytes.now < 2 ^ 32 }
-    ensures { PlaceChecks (S.Store.meaning store.now) place.entry.address place.entry.bytes.now result }
-{
-    for line in place.address / 128..past_line(place) {
-        admit(store, line)?;
+    for line in place.first_line()..place.past_line() {
+        store.admit(line)?;
     }
     Ok(())
 }
 
 // Checks each place of an image whose records are whole.
+#[tactic(auto, using(crate::proofs::Checking::check_steps))]
 pub(crate) fn check_places<S: Store>(store: &S, image: &[u8]) -> Result<(), Fault>
     requires { (ps : List Placed) × Image 0 image.now ps }
-    ensures { PlacesCheck (S.Store.meaning store.now) image.now result }
+    ensures { PlacesCheck (S.meaning store.now) image.now result }
 {
-    let mut at = 0;
-    while let Some(place) = place_at(image, at) {
-        locate(check_place(store, place), at)?;
-        at += HEADER + ADDRESS + place.bytes.len();
+    for place in Places::new(image) {
+        let (at, place) = place?;
+        check_place(store, place).map_err(|fault| Cause::from(fault).at(at))?;
     }
     Ok(())
 }

@@ -1,19 +1,18 @@
 // Writing the places of an image into a store that takes them.
-ghost use Rattle.std.specs.Prelude.{◌≡◌, ◌+◌, ◌*◌, ◌^◌, ◌<◌, ◌≤◌, true, List, length, Ok};
+ghost use Rattle.std.specs.Prelude.{◌≡◌, ◌*◌, ◌^◌, ◌<◌, true, List};
 ghost use Rattle.store.specs.Meaning.{with_line};
 ghost use Rattle.image.specs.Format.{Placed};
-ghost use Rattle.image.specs.Loading.{Good, Puts};
+ghost use Rattle.image.specs.Loading.{Good, put_all};
 ghost use Rattle.image.specs.Placing.{FitsIn, put, spliced};
 
-use crate::fault::{Cause, Fault, locate};
-use crate::places::past_line;
-use crate::record::{ADDRESS, HEADER, Place};
-use crate::records::place_at;
+use crate::place::Place;
+use crate::records::Places;
 use store::Store;
 
 // Writes what falls on a line of a place's bytes. The line's first byte is at address `base`.
+#[tactic(auto, using(crate::proofs::Splices::splice_cases))]
 fn splice(line: &mut [u8; 128], base: usize, place: Place<'_>)
-    requires { (length place.bytes.now < 2 ^ 32) × (base < 2 ^ 40) }
+    requires { base < 2 ^ 40 }
     ensures { line.new ≡ spliced base line.old place.entry.address place.entry.bytes.now }
 {
     let start = place.address as usize;
@@ -25,37 +24,35 @@ fn splice(line: &mut [u8; 128], base: usize, place: Place<'_>)
 }
 
 // Writes what falls on one line of a place's bytes, and leaves the rest of the line.
-fn put_line<S: Store>(store: &mut S, line: u32, place: Place<'_>) -> Result<(), Cause>
-    requires { (length place.bytes.now < 2 ^ 32) × ((S.Store.meaning store.old).canwrite line ≡ true) }
-    ensures { (result ≡ Ok tt) × (S.Store.meaning store.new ≡ with_line (S.Store.meaning store.old) line (spliced (128 * line) ((S.Store.meaning store.old).line line) place.entry.address place.entry.bytes.now)) }
+fn put_line<S: Store>(store: &mut S, line: u32, place: Place<'_>)
+    requires { (S.meaning store.old).canwrite line ≡ true }
+    ensures { let old = S.meaning store.old in S.meaning store.new ≡ with_line old line (spliced (128 * line) (old.line line) place.entry.address place.entry.bytes.now) }
 {
     let mut bytes = [0; 128];
-    store.read(line, &mut bytes)?;
-    splice(&mut bytes, line as usize * 128, place);
-    store.write(line, &bytes)?;
-    Ok(())
+    store.read(line, &mut bytes).unwrap();
+    splice(&mut bytes, 128 * line as usize, place);
+    store.write(line, &bytes).unwrap();
 }
 
 // Writes a place that the store takes, line by line.
-fn put_place<S: Store>(store: &mut S, place: Place<'_>) -> Result<(), Cause>
-    requires { (length place.bytes.now < 2 ^ 32) × FitsIn (S.Store.meaning store.old) place.address place.bytes.now }
-    ensures { (result ≡ Ok tt) × (S.Store.meaning store.new ≡ put (S.Store.meaning store.old) place.entry.address place.entry.bytes.now) }
+#[tactic(auto, using(crate::proofs::Puts::line_steps))]
+fn put_place<S: Store>(store: &mut S, place: Place<'_>)
+    requires { FitsIn (S.meaning store.old) place.address place.bytes.now }
+    ensures { S.meaning store.new ≡ put (S.meaning store.old) place.entry.address place.entry.bytes.now }
 {
-    for line in place.address / 128..past_line(place) {
-        put_line(store, line, place)?;
+    for line in place.first_line()..place.past_line() {
+        put_line(store, line, place);
     }
-    Ok(())
 }
 
 // Writes every place of a good image, in order.
-pub(crate) fn put_places<S: Store>(store: &mut S, image: &[u8]) -> Result<(), Fault>
-    requires { (ps : List Placed) × Good (S.Store.meaning store.old) image.now ps }
-    ensures { Puts (S.Store.meaning store.old) image.now result (S.Store.meaning store.new) }
+#[tactic(auto, using(crate::proofs::Writing::put_steps))]
+pub(crate) fn put_places<S: Store>(store: &mut S, image: &[u8])
+    requires { (ps : List Placed) × Good (S.meaning store.old) image.now ps }
+    ensures { (ps : List Placed) × Good (S.meaning store.old) image.now ps × (S.meaning store.new ≡ put_all (S.meaning store.old) ps) }
 {
-    let mut at = 0;
-    while let Some(place) = place_at(image, at) {
-        locate(put_place(store, place), at)?;
-        at += HEADER + ADDRESS + place.bytes.len();
+    for place in Places::new(image) {
+        let (_, place) = place.unwrap();
+        put_place(store, place);
     }
-    Ok(())
 }

@@ -1,55 +1,66 @@
-// All records of an image, checked for their form.
-ghost use Rattle.std.specs.Prelude.{◌≤◌, length, drop};
-ghost use Rattle.image.specs.Format.{front};
-ghost use Rattle.image.specs.Records.{Checks, Follows, ShowsAt, StandsAt};
+// The records of an image, one after the other.
+ghost use Rattle.std.specs.Prelude.{◌≡◌, ◌≤◌, length, Some};
+ghost use Rattle.std.specs.Option.{ForSome};
+ghost use Rattle.std.specs.Iterator.{at_most};
+ghost use Rattle.image.specs.Records.{Checks, Gives, left};
 
-use crate::fault::{Cause, Fault, locate};
-use crate::record::{ADDRESS, HEADER, Place, Record, first_record};
+use crate::fault::{Cause, Fault};
+use crate::place::{HEADER, Place};
+use crate::record::first_record;
 use refusal::Refusal;
 
-// The record at byte place `at`.
-pub(crate) fn record_at(image: &[u8], at: usize) -> Result<Record<'_>, Fault>
-    requires { at ≤ length image.now }
-    ensures { ShowsAt at (front (drop at image.now)) result }
-{
-    locate(first_record(&image[at..]), at)
+// The places of an image, each with the byte place of its record. A record at fault is the last.
+#[derive(Drop)]
+pub(crate) struct Places<'a> {
+    image: &'a [u8],
+    // where the next record begins, or none once the last was given
+    at: Option<usize>,
+    ghost within: { ForSome at (λ k. k ≤ length image.now) },
 }
 
-// The place whose record is at byte place `at`, where one is there.
-pub(crate) fn place_at(image: &[u8], at: usize) -> Option<Place<'_>>
-    requires { at ≤ length image.now }
-    ensures { StandsAt image.now at result }
-{
-    let Ok(record) = record_at(image, at) else {
-        return None;
-    };
-    match record {
-        Record::Place(place) => Some(place),
-        Record::End => None,
+impl<'a> Places<'a> {
+    pub(crate) fn new(image: &'a [u8]) -> Self
+        ensures { (result.image ≡ image.entry) × (result.at ≡ Some 0) }
+    {
+        Places { image, at: Some(0) }
     }
 }
 
-// Where the record after the one at byte place `at` begins, or none after the end.
-fn record_after(image: &[u8], at: usize) -> Result<Option<usize>, Fault>
-    requires { at ≤ length image.now }
-    ensures { Follows image.now at result }
-{
-    match record_at(image, at)? {
-        Record::Place(place) => Ok(Some(at + (HEADER + ADDRESS + place.bytes.len()))),
-        Record::End if image.len() - at > HEADER => Err(Fault {
-            cause: Cause::Form(Refusal::Cut),
-            at: at + HEADER,
-        }),
-        Record::End => Ok(None),
+impl<'a> Iterator for Places<'a> {
+    type Item = Result<(usize, Place<'a>), Fault>;
+
+    ghost next_gives = { λ s r t. (t.image ≡ s.image) × Gives s.image.now s.at r t.at };
+
+    ghost remaining = { λ s. at_most (left s.image.now s.at) };
+
+    #[tactic(auto, using(crate::proofs::Fronts::front_steps))]
+    fn next(&mut self) -> Option<Self::Item> {
+        let at = self.at.take()?;
+        let rest = &self.image[at..];
+        match first_record(rest) {
+            Ok(Some(place)) => {
+                self.at = Some(at + place.taken());
+                Some(Ok((at, place)))
+            }
+            Ok(None) => {
+                if rest.len() == HEADER {
+                    return None;
+                }
+                // what stands behind the end
+                Some(Err(Cause::Form(Refusal::Cut).at(at + HEADER)))
+            }
+            Err(refusal) => Some(Err(Cause::Form(refusal).at(at))),
+        }
     }
 }
 
+// Checks all records of an image for their form.
+#[tactic(auto, using(crate::proofs::Walks::walk_steps))]
 pub(crate) fn check_records(image: &[u8]) -> Result<(), Fault>
     ensures { Checks image.now result }
 {
-    let mut at = 0;
-    while let Some(next) = record_after(image, at)? {
-        at = next;
+    for place in Places::new(image) {
+        place?;
     }
     Ok(())
 }

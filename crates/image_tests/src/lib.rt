@@ -15,10 +15,7 @@ mod tests {
     type Answer = Result<(), (u8, usize, u32)>;
 
     fn answer(res: Result<(), Fault>) -> Answer {
-        match res {
-            Ok(()) => Ok(()),
-            Err(fault) => Err((fault.refusal().number(), fault.at, fault.line())),
-        }
+        res.map_err(|fault| (u8::from(fault.refusal()), fault.at, fault.line()))
     }
 
     // Places the byte 9 at 0.
@@ -31,11 +28,7 @@ mod tests {
 
     // The bytes of an image: its records in a row.
     fn joined(heap: Global, records: &[&[u8]]) -> Result<Vec<u8>, AllocError> {
-        let mut image = Vec::new(heap);
-        for record in records {
-            image.extend_from_slice(record)?;
-        }
-        Ok(image)
+        records.concat(heap)
     }
 
     // Loads the records into RAM of 2 lines and 44 bytes.
@@ -106,6 +99,25 @@ mod tests {
         Ok(())
     }
 
+    // A fault is printed with its refusal's number.
+    #[test]
+    fn faults_are_printed(rt: HostRuntime) -> Result<(), Fail> {
+        let cases: [(&[&[u8]], &str); 3] = [
+            (&[&PLACED], "x 7\nrecord at byte 11, line 0"),
+            (&[&[0, 0, 0, 0, 0, 0]], "x 8\nrecord at byte 0, line 0"),
+            (
+                &[&PLACED, &THIRD_LINE, &END],
+                "x 9\nrecord at byte 11, line 2",
+            ),
+        ];
+        for (records, text) in cases {
+            let image = joined(rt.alloc(), records)?;
+            let fault = load_bytes(&mut [7; 300], 0, &image).err().ok_or("taken")?;
+            assert_eq!(rt; format!(in rt.alloc(); "{fault}")?.as_str(), text);
+        }
+        Ok(())
+    }
+
     // The RAM has lines 0 and 1.
     #[test]
     fn places_off_the_store_are_refused(rt: HostRuntime) -> Result<(), Fail> {
@@ -172,29 +184,19 @@ mod tests {
         Ok(())
     }
 
-    // An image that places the bytes 1 to 144 at 120.
-    fn long_image() -> [u8; 160] {
-        let mut image = [0; 160];
-        image[0] = 148;
-        image[4] = 1;
-        image[6] = 120;
-        for k in 0..144u8 {
-            image[10 + k as usize] = k + 1;
-        }
-        image[158] = 2;
-        image
-    }
-
-    // 8 bytes fall on line 0, 128 on line 1, and 8 on line 2.
+    // The bytes 1 to 144 at 120: 8 fall on line 0, 128 on line 1, and 8 on line 2.
     #[test]
-    fn a_place_may_run_over_three_lines(rt: HostRuntime) {
-        let image = long_image();
+    fn a_place_may_run_over_three_lines(rt: HostRuntime) -> Result<(), Fail> {
+        let head = [148, 0, 0, 0, 1, 0, 120, 0, 0, 0];
+        let placed: [u8; 144] = std::array::from_fn(|k| k as u8 + 1);
+        let image = joined(rt.alloc(), &[&head, &placed, &END])?;
         let mut bytes = [0xEE; 400];
         let mut ram = Ram::new(&mut bytes);
         assert_eq!(rt; answer(image::load(&mut ram, &image)), Ok(()));
         assert_eq!(rt; &bytes[0..120], [0xEE; 120].as_slice());
-        assert_eq!(rt; &bytes[120..264], &image[10..154]);
+        assert_eq!(rt; &bytes[120..264], placed.as_slice());
         assert_eq!(rt; &bytes[264..400], [0xEE; 136].as_slice());
+        Ok(())
     }
 
     // 1, 2, 3 and 4 at 126, and then 9 at 127.

@@ -3,28 +3,28 @@
 // `survey` for what they hold and `listing` for its text; it only prints.
 #![tactic(auto)]
 
-use bench::{RAM_BYTES, load_file, on_bench};
+use bench::{FileFault, RAM_BYTES, load_file, on_bench};
 use listing::{OutcomeText, RunText};
 use std::io;
+use std::io::ErrorKind;
 use store::{Ram, Store};
-use survey::{next_run, undefined_words};
+use survey::{Runs, undefined_words};
 
 // Prints each run of lines that are not blank, and then how many words in them are undefined.
 fn print_store<S: Store>(rt: &HostRuntime, store: &S) -> io::Result<()> {
-    let mut from = 0;
-    while let Some(run) = next_run(store, from) {
-        let text = RunText(run);
-        println!(rt; "{text}")?;
-        from = run.after;
+    for run in Runs::new(store) {
+        println!(rt; "{}", RunText(run))?;
     }
-    let count = undefined_words(store);
-    println!(rt; "undefined words: {count}")
+    println!(rt; "undefined words: {}", undefined_words(store))
 }
 
 fn main(rt: HostRuntime) -> io::Result<()> {
     let mut memory = vec![in rt.alloc(); 0; RAM_BYTES]?;
     let mut ram = Ram::new(&mut memory);
-    let outcome = OutcomeText(load_file(&rt, "bench.img", &mut ram)?);
-    println!(rt; "{outcome}")?;
+    match load_file(&rt, "bench.img", &mut ram) {
+        // as any other want of memory does
+        Err(FileFault::OutOfMemory) => return Err(ErrorKind::OutOfMemory.into()),
+        outcome => println!(rt; "{}", OutcomeText(outcome))?,
+    }
     print_store(&rt, &on_bench(ram))
 }

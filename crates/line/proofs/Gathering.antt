@@ -80,3 +80,5 @@ all_ones t =
     let split : 2 ^ 64 - 1 ≡ (2 ^ (64 - n) - 1) * 2 ^ n + (2 ^ n - 1) = ap (λ i. 2 ^ i - 1) all ∙ ones_split (64 - n) n in
     let cut : (2 ^ 64 - 1) % 2 ^ n ≡ 2 ^ n - 1 = ap (λ m. m % 2 ^ n) split ∙ low (2 ^ (64 - n) - 1) n (ones_lt n) in
     cast_same t (pos (2 ^ 64 - 1)) (pos (2 ^ n - 1)) (residue-pos n (2 ^ 64 - 1) ∙ cut ∙ sym (residue_small n (2 ^ n - 1) (ones_lt n)))
+
+pub ruleset gathering = (gather_sum, gather_product, gather_greatest, gather_least, gather_common, all_ones)

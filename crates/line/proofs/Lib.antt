@@ -1,4 +1,5 @@
 pub mod Bytes
 pub mod Rows
+pub mod Joins
 pub mod Readback
 pub mod Gathering

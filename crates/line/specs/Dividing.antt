@@ -1,5 +1,5 @@
 -- Division of every element of a line.
-use Rattle.std.specs.Prelude.{ℕ, zero, suc, Bool, false, ◌||◌, List, nat_eq, unsigned_abs}
+use Rattle.std.specs.Prelude.{ℕ, zero, suc, Bool, false, ◌||◌, List, ◌==◌, unsigned_abs}
 use Rattle.word.specs.declared.element.ElementType.{ElementType}
 use Rattle.line.specs.Elements.{count, element}
 use Rattle.line.specs.Vectors.{line_of}
@@ -12,7 +12,7 @@ somewhere p (suc n) = somewhere p n || p n
 
 -- Some element of a line is zero.
 abbrev pub any_zero : ElementType → List ℕ → Bool
-any_zero t y = somewhere (λ k. nat_eq (unsigned_abs (element t y k)) 0) (count t)
+any_zero t y = somewhere (λ k. unsigned_abs (element t y k) == 0) (count t)
 
 -- Every element of x over that of y: the line of quotients and the line of remainders. (Over zero,
 -- the quotient is zero and the remainder x; the machine does not divide then.)

@@ -10,19 +10,20 @@ pub struct Place {
 }
 
 impl Place {
-    // The place of an address in its line.
-    pub fn of(address: u32) -> Place
-        ensures { result.offset ≡ address % 128 }
-    {
-        Place {
-            offset: (address % 128) as usize,
-        }
-    }
-
     pub fn offset(self) -> usize
         ensures { (result ≡ self.offset) × (result < 128) }
     {
-        let Place { offset } = self;
-        offset
+        self.offset
+    }
+}
+
+// The place of an address in its line.
+impl From<u32> for Place {
+    ghost from_gives = { λ address place. place.offset ≡ address % 128 };
+
+    fn from(address: u32) -> Place {
+        Place {
+            offset: (address % 128) as usize,
+        }
     }
 }

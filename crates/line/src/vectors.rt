@@ -1,35 +1,27 @@
 // Operations on every element of a line. The result is made in a line of its own and then written, so
-// every operand is read before anything is written.
-ghost use Rattle.std.specs.Prelude.{◌≡◌, ◌*◌, ◌<◌, pos};
-ghost use Rattle.word.specs.Types.{bits, width};
-ghost use Rattle.line.specs.Elements.{bytes, splice};
-ghost use Rattle.line.specs.Elements.{count as lanes, element as elementOf};
+// every operand is read before anything is written. (Loops count elements, as `elements` says.)
+#![tactic(auto, using(crate::proofs::Rows::rows))]
+
+ghost use Rattle.std.specs.Prelude.{◌≡◌};
+ghost use Rattle.line.specs.Elements.{element as elementOf};
 ghost use Rattle.line.specs.Vectors.{line_of, filled};
 ghost use Rattle.line.specs.Vectors.{vector as vectorOf, vector_addr};
 ghost use Rattle.scalar.specs.Arithmetic.{applied};
-ghost use Rattle.scalar.specs.Casts.{residue};
 
 use crate::elements::{count, lane_at, set_lane, zeros};
-use crate::kinds::*;
-use scalar::lanes::{lane, low};
+use crate::kinds::by_kind;
+use scalar::lanes::lane;
 use scalar::operations::*;
 use word::{Arith, ElementType};
 
-// Writes what an operation makes of the elements k of x and y to element k of another line.
-fn apply_at<T: Kind, O: Operation>(out: &mut [u8; 128], x: &[u8; 128], y: &[u8; 128], k: usize)
-    requires { k < lanes T.kind }
-    ensures { out.new ≡ splice out.old (k * width T.kind) (bytes (width T.kind) (residue (bits T.kind) (O.make (bits T.kind) (elementOf T.kind x.now k) (elementOf T.kind y.now k)))) }
-{
-    let made = O::apply(T::kind(), lane_at::<T>(x, k), lane_at::<T>(y, k));
-    set_lane::<T>(out, k, made);
-}
-
-fn apply_as<T: Kind, O: Operation>(x: &[u8; 128], y: &[u8; 128], out: &mut [u8; 128])
-    ensures { out.new ≡ line_of T.kind (λ k. applied O.make T.kind (elementOf T.kind x.now k) (elementOf T.kind y.now k)) }
+#[inline(always)]
+fn apply_as<O: Operation>(kind: ElementType, x: &[u8; 128], y: &[u8; 128], out: &mut [u8; 128])
+    ensures { out.new ≡ line_of kind (λ k. applied O.make kind (elementOf kind x.now k) (elementOf kind y.now k)) }
 {
     let mut made = zeros();
-    for k in 0..count::<T>() {
-        apply_at::<T, O>(&mut made, x, y, k);
+    for k in 0..count(kind) {
+        let v = O::apply(kind, lane_at(kind, x, k), lane_at(kind, y, k));
+        set_lane(kind, &mut made, k, v);
     }
     *out = made;
 }
@@ -38,15 +30,17 @@ fn apply_as<T: Kind, O: Operation>(x: &[u8; 128], y: &[u8; 128], out: &mut [u8; 
 pub fn apply<O: Operation>(kind: ElementType, x: &[u8; 128], y: &[u8; 128], out: &mut [u8; 128])
     ensures { out.new ≡ line_of kind (λ k. applied O.make kind (elementOf kind x.now k) (elementOf kind y.now k)) }
 {
-    by_kind!(kind, apply_as, O; x, y, out)
+    by_kind!(kind, apply_as::<O>; x, y, out)
 }
 
 // The vector form of an operation of two operands. For addr, x holds the address at every element.
+// (It matches as `scalar::compute` does: one function for both would take a trait with a generic
+// method, and a struct of operands for each.)
 pub fn vector(op: Arith, kind: ElementType, x: &[u8; 128], y: &[u8; 128], out: &mut [u8; 128])
     ensures { out.new ≡ vectorOf op kind x.now y.now }
 {
     match op {
-        Arith::Add => apply::<Add>(kind, x, y, out),
+        Arith::Add | Arith::Addr => apply::<Add>(kind, x, y, out),
         Arith::Sub => apply::<Sub>(kind, x, y, out),
         Arith::Slt => apply::<Slt>(kind, x, y, out),
         Arith::Mul => apply::<Mul>(kind, x, y, out),
@@ -57,23 +51,17 @@ pub fn vector(op: Arith, kind: ElementType, x: &[u8; 128], y: &[u8; 128], out: &
         Arith::Shr => apply::<Shr>(kind, x, y, out),
         Arith::Rol => apply::<Rol>(kind, x, y, out),
         Arith::Ror => apply::<Ror>(kind, x, y, out),
-        Arith::Addr => apply::<Add>(kind, x, y, out),
     }
 }
 
-// Writes one lane to every element of a line.
-fn fill_lanes<T: Kind>(v: u64, out: &mut [u8; 128])
-    ensures { out.new ≡ filled T.kind (pos v) }
+#[inline(always)]
+fn fill_as(kind: ElementType, z: i128, out: &mut [u8; 128])
+    ensures { out.new ≡ filled kind z }
 {
-    for k in 0..count::<T>() {
-        set_lane::<T>(out, k, low(T::kind(), v));
+    let v = lane(kind, z);
+    for k in 0..count(kind) {
+        set_lane(kind, out, k, v);
     }
-}
-
-fn fill_as<T: Kind>(z: i128, out: &mut [u8; 128])
-    ensures { out.new ≡ filled T.kind z }
-{
-    fill_lanes::<T>(lane(T::kind(), z), out)
 }
 
 // Writes z, cast, to every element of a line.
@@ -83,19 +71,22 @@ pub fn fill(kind: ElementType, z: i128, out: &mut [u8; 128])
     by_kind!(kind, fill_as; z, out)
 }
 
-// Adds x, which holds the address at every element, to every element of y.
-fn add_address(kind: ElementType, address: u32, x: &[u8; 128], y: &[u8; 128], out: &mut [u8; 128])
-    requires { x.now ≡ filled kind (pos address) }
+// A loop of its own: for that of `apply_as`, a line would be filled with the address and read again.
+#[inline(always)]
+fn add_address_as(kind: ElementType, address: u32, y: &[u8; 128], out: &mut [u8; 128])
     ensures { out.new ≡ vector_addr kind address y.now }
 {
-    vector(Arith::Addr, kind, x, y, out)
+    let mut made = zeros();
+    for k in 0..count(kind) {
+        let v = Add::apply(kind, u64::from(address), lane_at(kind, y, k));
+        set_lane(kind, &mut made, k, v);
+    }
+    *out = made;
 }
 
 // The vector form of addr: the address, cast, added to every element.
 pub fn vector_addr(kind: ElementType, address: u32, y: &[u8; 128], out: &mut [u8; 128])
     ensures { out.new ≡ vector_addr kind address y.now }
 {
-    let mut x = zeros();
-    fill(kind, address as i128, &mut x);
-    add_address(kind, address, &x, y, out)
+    by_kind!(kind, add_address_as; address, y, out)
 }

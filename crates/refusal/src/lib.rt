@@ -8,49 +8,36 @@ ghost use Rattle.refusal.specs.Numbers.{number};
 #[derive(Clone, Copy, PartialEq, Eq, Debug)]
 pub enum Refusal {
     // boot on a store of no lines
-    NoLines,
+    NoLines = 1,
     // a call other than boot on a cold file
-    Cold,
+    Cold = 2,
     // boot on a warm file
-    Warm,
+    Warm = 3,
     // show of a register over 127
-    NoRegister,
+    NoRegister = 4,
     // a limit over 1,000,000 steps
-    OverLimit,
+    OverLimit = 5,
     // coding fields that no word decodes to
-    NoWord,
+    NoWord = 6,
     // an image record that is cut, missing or past the end, or a place of under 4 bytes
-    Cut,
+    Cut = 7,
     // an image record of no known kind, or an end with a body
-    Kind,
+    Kind = 8,
     // an image's place on a line that is missing or cannot be written
-    Place,
+    Place = 9,
     // a line that is not below the store's size
-    MissingLine,
+    MissingLine = 10,
     // a write to a line that cannot be written
-    FixedLine,
+    FixedLine = 11,
     // adding to a full trail
-    FullTrail,
+    FullTrail = 12,
 }
 
-impl Refusal {
-    // The number by which documents, programs and people name this refusal.
-    pub fn number(self) -> u8
-        ensures { result ≡ number self }
-    {
-        match self {
-            Refusal::NoLines => 1,
-            Refusal::Cold => 2,
-            Refusal::Warm => 3,
-            Refusal::NoRegister => 4,
-            Refusal::OverLimit => 5,
-            Refusal::NoWord => 6,
-            Refusal::Cut => 7,
-            Refusal::Kind => 8,
-            Refusal::Place => 9,
-            Refusal::MissingLine => 10,
-            Refusal::FixedLine => 11,
-            Refusal::FullTrail => 12,
-        }
+// The number by which documents, programs and people name a refusal.
+impl From<Refusal> for u8 {
+    ghost from_gives = { λ refusal n. n ≡ number refusal };
+
+    fn from(refusal: Refusal) -> u8 {
+        refusal as u8
     }
 }

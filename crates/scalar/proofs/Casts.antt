@@ -6,11 +6,12 @@ use lib.Pow.{ones_split, ones_lt, high, mod-mod-pow, mod-pow-add, shl-shr}
 use Rattle.std.proofs.lemmas.Nat.{and_mask}
 use Rattle.std.proofs.lemmas.Int.{to_z-of_z, to_z_pos}
 use Rattle.std.proofs.lemmas.Bool.{cond-true, cond-false, lt-leb, le-leb}
-use lib.Signed.{shr_z, mag_shr}
+use lib.Signed.{shr_z, mag, mag_shr}
 use mir.Syntax.{Width, w128}
 use mir.Val as val
 use mir.Val.{hbits, sel}
 use native.Mathlib.Nat.{mod-le, mul-mod_left}
+use Rattle.word.specs.Numbers.{type_number}
 use Rattle.word.specs.Types.{bits, signed}
 use Rattle.word.specs.declared.element.ElementType.{ElementType}
 use Rattle.word.specs.declared.element.ElementType.TheVariants.{U8, S8, U16, S16, U32, S32, U64, S64}
@@ -20,14 +21,7 @@ use Rattle.scalar.proofs.Residues.{residue_is, residue_same, residue_differs, re
 
 -- a type has from 8 to 64 bits
 pub bits_low : (t : ElementType) → 8 ≤ bits t
-bits_low U8 = omega arith
-bits_low S8 = omega arith
-bits_low U16 = omega arith
-bits_low S16 = omega arith
-bits_low U32 = omega arith
-bits_low S32 = omega arith
-bits_low U64 = omega arith
-bits_low S64 = omega arith
+bits_low t = omega (arith, pow_pos (type_number t / 2))
 
 pub bits_high : (t : ElementType) → bits t ≤ 64
 bits_high U8 = omega arith
@@ -100,8 +94,14 @@ residue_fewer n m z h =
     let others : l * 2 ^ k * 2 ^ n ≡ l * 2 ^ m = mul_assoc l (2 ^ k) (2 ^ n) ∙ ap (λ i. l * i) whole in
     residue_same n (pos (residue m z)) z (j * 2 ^ k) (l * 2 ^ k) (ap (λ i. pos (residue m z) +ℤ pos i) ones ∙ d.2 ∙ ap (λ i. z +ℤ pos i) (sym others))
 
-pub cast_fewer : (t : ElementType) (m : ℕ) (z : ℤ) → bits t ≤ m → cast t (pos (residue m z)) ≡ cast t z
-cast_fewer t m z h = cast_same t (pos (residue m z)) z (residue_fewer (bits t) m z h)
+-- what a type keeps of a number that is passed on in 128 bits
+pub residue_wide : (t : ElementType) (z : ℤ) → SFits w128 z → residue (bits t) z ≡ residue 64 (to_z w128 (of_z w128 z)) % 2 ^ bits t
+residue_wide t z f = sym (residue_fewer (bits t) 64 z (bits_high t)) ∙ residue-pos (bits t) (residue 64 z) ∙ ap (λ y. residue 64 y % 2 ^ bits t) (sym (to_z-of_z w128 z f))
+
+pub cast_from_residue : (t : ElementType) (z : ℤ) (m : ℕ) → m ≡ residue (bits t) z → cast t (pos m) ≡ cast t z
+cast_from_residue t z m e = ap (λ n. cast t (pos n)) e ∙ cast-residue t z
+
+pub ruleset from_wide = (residue_wide, cast_from_residue)
 
 -- the bits of a signed number, cut to fewer, are its residue
 pub residue-bits : (w : Width) (n : ℕ) (z : ℤ) → n ≤ val.bits w → SFits w z → of_z w z % 2 ^ n ≡ residue n z
@@ -257,3 +257,9 @@ cast-remainder t x y = by (signed t) refl
         let is : cut_remainder (cast t x) (cast t y) ≡ pos m = ap (λ v. cut_remainder v (cast t y)) (cast_unsigned t x e) in
         let small : m < 2 ^ bits t = omega (arith, mod-le (residue (bits t) x) (nat_abs (cast t y)), residue_below (bits t) x) in
         ap (cast t) is ∙ cast_unsigned t (pos m) e ∙ ap pos (residue_small (bits t) m small) ∙ sym is
+
+-- a number of 128 bits, passed on
+pub passed : (z : ℤ) → mag z < 2 ^ 127 → to_z w128 (of_z w128 z) ≡ z
+passed z h = to_z-of_z w128 z record { sfits = h }
+
+pub ruleset passed_on = (passed, to_z-of_z, cast-residue, cast-remainder)

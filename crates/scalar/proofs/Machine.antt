@@ -1,5 +1,5 @@
 -- What machine arithmetic on 64 bits makes of lanes, over any type.
-use Rattle.std.proofs.Common.{◌≡◌, ℕ, ◌+◌, ◌-◌, ◌*◌, ◌/◌, ◌%◌, ◌^◌, ◌<◌, ◌≤◌, min, Bool, true, false, cond, ltb, ℤ, pos, negsuc, ◌+ℤ◌, ◌-ℤ◌, ◌*ℤ◌, neg_ℤ, sym, refl, ap, ◌∙◌, ap₂, arith, pow_mono, pow-add, shr-shr, ltb-false, ltb-true, le-ltb, lt-ltb}
+use Rattle.std.proofs.Common.{◌≡◌, ℕ, ◌+◌, ◌-◌, ◌*◌, ◌/◌, ◌%◌, ◌^◌, ◌<◌, ◌≤◌, min, Bool, true, false, cond, ltb, ℤ, pos, negsuc, ◌+ℤ◌, ◌-ℤ◌, ◌*ℤ◌, neg_ℤ, sym, refl, ap, ◌∙◌, ap₂, arith, pow_mono, pow-add, shr-shr, ltb-false, ltb-true, le-ltb, lt-ltb, mul_assoc, div-add-mod'}
 use borrow.Author.Differences.{up, down, ints}
 use lib.Bits.{bit_and, bit_or, bit_xor}
 use lib.Pow.{shr_le}
@@ -9,8 +9,9 @@ use Rattle.word.specs.Types.{bits}
 use Rattle.word.specs.declared.element.ElementType.{ElementType}
 use Rattle.scalar.specs.Casts.{residue, cast}
 use Rattle.scalar.specs.Arithmetic.{shift_left, shift_right, shifted_out, rotate, negative}
-use Rattle.scalar.proofs.Casts.{bits_low, bits_high, mod_fewer, lane_residue}
+use Rattle.scalar.proofs.Casts.{bits_low, bits_high, mod_fewer, lane_residue, masked, lane_unsigned}
 use Rattle.scalar.proofs.Residues.{residue_same, residue-pos, residue_small, residue-add, residue-sub, residue-mul}
+use Rattle.std.specs.Int.{from_bool}
 use Rattle.std.proofs.lemmas.Nat.{and_mod, or_mod, xor_mod}
 use Rattle.std.proofs.lemmas.Bool.{cond-true, cond-false}
 
@@ -63,9 +64,12 @@ module _ (t : ElementType) (x y : ℕ) where
 pub small_below : (t : ElementType) (m : ℕ) → m < 256 → m < 2 ^ bits t
 small_below t m h = let more : 2 ^ 8 ≤ 2 ^ bits t = pow_mono (bits_low t) in omega arith
 
-pub lane_truth : (t : ElementType) (b : Bool) (m : ℕ) → m ≡ cond b 1 0 → m ≡ residue (bits t) (cond b (pos 1) (pos 0))
-lane_truth t true m e = e ∙ sym (residue_small (bits t) 1 (small_below t 1 (omega arith)))
-lane_truth t false m e = e ∙ sym (residue_small (bits t) 0 (small_below t 0 (omega arith)))
+-- a truth value, as a lane
+pub lane_truth : (t : ElementType) (b : Bool) → from_bool b ≡ residue (bits t) (cond b (pos 1) (pos 0))
+lane_truth t true = sym (residue_small (bits t) 1 (small_below t 1 (omega arith)))
+lane_truth t false = sym (residue_small (bits t) 0 (small_below t 0 (omega arith)))
+
+pub ruleset lane_operations = (lane_add, lane_sub, lane_mul, lane_and, lane_or, lane_xor, lane_truth)
 
 -- shifts
 pub lane_shl : (t : ElementType) (x c : ℕ) → c < bits t → (x * 2 ^ c) % 2 ^ 64 % 2 ^ bits t ≡ residue (bits t) (shift_left (bits t) (cast t (pos x)) c)
@@ -127,12 +131,16 @@ pub lane_negative : (z : ℤ) → lt_z z (pos 0) ≡ negative z
 lane_negative (pos m) = le-ltb m 0 (omega arith)
 lane_negative (negsuc m) = refl
 
-pub lane_minus : (t : ElementType) (m : ℕ) → m ≤ 2 ^ 64 → (0 + (2 ^ 64 - m)) % 2 ^ 64 % 2 ^ bits t ≡ residue (bits t) (neg_ℤ (pos m))
-lane_minus t m h =
+pub lane_minus : (t : ElementType) (m r : ℕ) → (r + m) % 2 ^ 64 ≡ 0 → r % 2 ^ bits t ≡ residue (bits t) (neg_ℤ (pos m))
+lane_minus t m r e =
     let n = bits t in
-    let k = 64 - n in
+    let j = 64 - n in
+    let k = (r + m) / 2 ^ 64 in
     let few = bits_high t in
-    let all : k + n ≡ 64 = omega arith in
-    let whole : 2 ^ k * 2 ^ n ≡ 2 ^ 64 = sym (pow-add 2 k n) ∙ ap (λ i. 2 ^ i) all in
-    let far : neg_ℤ (pos m) +ℤ pos (2 ^ k * 2 ^ n) ≡ pos (0 + (2 ^ 64 - m)) +ℤ pos (0 * 2 ^ n) = ap (λ i. neg_ℤ (pos m) +ℤ pos i) whole ∙ omega (arith, ints) in
-    cut t m m (0 + (2 ^ 64 - m)) ∙ sym (residue_same n (neg_ℤ (pos m)) (pos (0 + (2 ^ 64 - m))) (2 ^ k) 0 far)
+    let all : j + n ≡ 64 = omega arith in
+    let whole : k * 2 ^ j * 2 ^ n ≡ k * 2 ^ 64 = mul_assoc k (2 ^ j) (2 ^ n) ∙ ap (λ i. k * i) (sym (pow-add 2 j n) ∙ ap (λ i. 2 ^ i) all) in
+    let sum : k * 2 ^ j * 2 ^ n ≡ r + m = omega (arith, div-add-mod' (r + m) (2 ^ 64)) in
+    sym (residue-pos n r) ∙ sym (residue_same n (neg_ℤ (pos m)) (pos r) (k * 2 ^ j) 0 (ap (λ i. neg_ℤ (pos m) +ℤ pos i) sum ∙ omega (arith, ints)))
+
+-- what the functions on lanes cite
+pub ruleset lane_bits = (bits_high, masked, lane_residue, lane_unsigned, residue-pos, lane_minus, lane_negative, lane_shl, lane_shl_past, lane_shr_unsigned, lane_shr_past, lane_rotate, lane_rotate_all)

@@ -1,5 +1,5 @@
 -- Arithmetic on numbers that are cast to a type.
-use Rattle.std.specs.Prelude.{ℕ, ◌+◌, ◌-◌, ◌*◌, ◌/◌, ◌%◌, ◌^◌, Bool, true, false, cond, not, ℤ, pos, negsuc, ◌+ℤ◌, ◌-ℤ◌, ◌*ℤ◌, neg_ℤ, Some, None, Option, ◌==◌, bit_and, bit_or, bit_xor, int_lt, nat_lt, unsigned_abs}
+use Rattle.std.specs.Prelude.{ℕ, ◌+◌, ◌-◌, ◌*◌, ◌/◌, ◌%◌, ◌^◌, Bool, true, false, if◌then◌else◌, not, ℤ, pos, negsuc, ◌+ℤ◌, ◌-ℤ◌, ◌*ℤ◌, neg_ℤ, Some, None, Option, ◌==◌, bit_and, bit_or, bit_xor, int_lt, nat_lt, unsigned_abs}
 use Rattle.std.specs.Int.Signed.{shr_z}
 use Rattle.std.specs.Bool.{beq}
 use Rattle.word.specs.Types.{bits}
@@ -15,19 +15,19 @@ differ a b = not (beq a b)
 
 -- Slt gives 1 when x < y, else 0.
 abbrev pub less : ℤ → ℤ → ℤ
-less x y = cond (int_lt x y) (pos 1) (pos 0)
+less x y = if int_lt x y then pos 1 else pos 0
 
 -- A shift of n bits by a count c below n multiplies by 2 ^ c, or divides by it and rounds down
 -- (which is `shr_z`). From n on, shl gives 0, and shr gives 0, or -1 for negative x.
 abbrev pub shift_left : ℕ → ℤ → ℕ → ℤ
-shift_left n x c = cond (nat_lt c n) (x *ℤ pos (2 ^ c)) (pos 0)
+shift_left n x c = if nat_lt c n then x *ℤ pos (2 ^ c) else pos 0
 
 abbrev pub shifted_out : ℤ → ℤ
 shifted_out (pos m) = pos 0
 shifted_out (negsuc m) = negsuc 0
 
 abbrev pub shift_right : ℕ → ℤ → ℕ → ℤ
-shift_right n x c = cond (nat_lt c n) (shr_z x (2 ^ c)) (shifted_out x)
+shift_right n x c = if nat_lt c n then shr_z x (2 ^ c) else shifted_out x
 
 -- The n bits that make m, rotated left by c from 0 to n: those shifted out at the top come in at
 -- the bottom.
@@ -86,9 +86,9 @@ quotient t x y = applied (λ n. cut_quotient) t x y
 abbrev pub remainder : ElementType → ℤ → ℤ → ℤ
 remainder t x y = cut_remainder (cast t x) (cast t y)
 
-abbrev pub division : ElementType → ℤ → ℤ → Division
+abbrev pub division : ElementType → ℤ → ℤ → Division ℤ
 division t x y = record { quotient = quotient t x y; remainder = remainder t x y }
 
 -- A divisor that is zero after its cast gives nothing.
-abbrev pub divided : ElementType → ℤ → ℤ → Option Division
-divided t x y = cond (casts_to_zero t y) None (Some (division t x y))
+abbrev pub divided : ElementType → ℤ → ℤ → Option (Division ℤ)
+divided t x y = if casts_to_zero t y then None else Some (division t x y)

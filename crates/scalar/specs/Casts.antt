@@ -1,5 +1,5 @@
 -- Casts: a number reduced to so many bits and read by a type.
-use Rattle.std.specs.Prelude.{ℕ, ◌-◌, ◌%◌, ◌^◌, Bool, true, false, cond, ℤ, pos, negsuc, ◌-ℤ◌, nat_le}
+use Rattle.std.specs.Prelude.{ℕ, ◌-◌, ◌%◌, ◌^◌, Bool, true, false, if◌then◌else◌, ℤ, pos, negsuc, ◌-ℤ◌, nat_le}
 use Rattle.word.specs.Types.{bits, signed}
 use Rattle.word.specs.declared.element.ElementType.{ElementType}
 
@@ -13,7 +13,7 @@ residue n (negsuc m) = 2 ^ n - 1 - m % 2 ^ n
 -- m - 2 ^ n.
 unfoldable pub read_bits : Bool → ℕ → ℕ → ℤ
 read_bits false n m = pos m
-read_bits true n m = cond (nat_le (2 ^ (n - 1)) m) (pos m -ℤ pos (2 ^ n)) (pos m)
+read_bits true n m = if nat_le (2 ^ (n - 1)) m then pos m -ℤ pos (2 ^ n) else pos m
 
 -- To cast is to reduce modulo 2 ^ bits and to read by the type.
 unfoldable pub cast : ElementType → ℤ → ℤ

@@ -1,24 +1,19 @@
 // Division with its remainder.
+#![tactic(auto, using(crate::proofs::Machine::lane_bits))]
+
 ghost use Rattle.std.specs.Prelude.{◌≡◌, ◌/◌, ◌%◌, pos, unsigned_abs};
 ghost use Rattle.word.specs.Types.{bits};
-ghost use Rattle.scalar.specs.Arithmetic.{negative, with_sign, cut_quotient, cut_remainder, casts_to_zero, division, divided};
+ghost use Rattle.scalar.specs.Arithmetic.{negative, with_sign, cut_quotient, cut_remainder, casts_to_zero, divided};
 ghost use Rattle.scalar.specs.Casts.{residue, cast};
 
 use crate::lanes::{extend, lane, low, value};
 use word::ElementType;
 
-// What a division of numbers gives.
+// What a division gives, of numbers or of lanes.
 #[derive(Clone, Copy, PartialEq, Eq, Debug)]
-pub struct Division {
-    pub quotient: i128,
-    pub remainder: i128,
-}
-
-// What a division of lanes gives.
-#[derive(Clone, Copy)]
-pub struct LaneDivision {
-    pub quotient: u64,
-    pub remainder: u64,
+pub struct Division<T = i128> {
+    pub quotient: T,
+    pub remainder: T,
 }
 
 // The size of the number that a lane stands for.
@@ -36,11 +31,7 @@ fn size(kind: ElementType, x: u64) -> u64
 fn is_negative(kind: ElementType, x: u64) -> bool
     ensures { result ≡ negative (cast kind (pos x)) }
 {
-    if kind.is_signed() {
-        extend(kind, x) < 0
-    } else {
-        false
-    }
+    kind.is_signed() && extend(kind, x) < 0
 }
 
 // The lane of a number of this size, with its sign.
@@ -48,24 +39,24 @@ fn signed_lane(kind: ElementType, is_negative: bool, size: u64) -> u64
     ensures { result ≡ residue (bits kind) (with_sign is_negative size) }
 {
     if is_negative {
-        low(kind, 0u64.wrapping_sub(size))
+        low(kind, size.wrapping_neg())
     } else {
         low(kind, size)
     }
 }
 
 // The quotient and the remainder of sizes. Over zero they are zero and x.
-fn divide_sizes(x: u64, y: u64) -> LaneDivision
+fn divide_sizes(x: u64, y: u64) -> Division<u64>
     ensures quotient { result.quotient ≡ x / y }
     ensures remainder { result.remainder ≡ x % y }
 {
     if y == 0 {
-        LaneDivision {
+        Division {
             quotient: 0,
             remainder: x,
         }
     } else {
-        LaneDivision {
+        Division {
             quotient: x / y,
             remainder: x % y,
         }
@@ -73,31 +64,23 @@ fn divide_sizes(x: u64, y: u64) -> LaneDivision
 }
 
 // The quotient and the remainder of lanes. Over zero they are zero and x.
-pub fn divide_lanes(kind: ElementType, x: u64, y: u64) -> LaneDivision
+pub fn divide_lanes(kind: ElementType, x: u64, y: u64) -> Division<u64>
     ensures quotient { result.quotient ≡ residue (bits kind) (cut_quotient (cast kind (pos x)) (cast kind (pos y))) }
     ensures remainder { result.remainder ≡ residue (bits kind) (cut_remainder (cast kind (pos x)) (cast kind (pos y))) }
 {
     let sizes = divide_sizes(size(kind, x), size(kind, y));
     let (x, y) = (is_negative(kind, x), is_negative(kind, y));
-    LaneDivision {
+    Division {
         quotient: signed_lane(kind, x != y, sizes.quotient),
         remainder: signed_lane(kind, x, sizes.remainder),
     }
-}
-
-// Whether a number of this size is zero.
-fn has_no_size(kind: ElementType, y: u64, size: u64) -> bool
-    requires { size ≡ unsigned_abs (cast kind (pos y)) }
-    ensures { result ≡ casts_to_zero kind (pos y) }
-{
-    size == 0
 }
 
 // Whether a lane stands for zero.
 pub fn is_zero_lane(kind: ElementType, y: u64) -> bool
     ensures { result ≡ casts_to_zero kind (pos y) }
 {
-    has_no_size(kind, y, size(kind, y))
+    size(kind, y) == 0
 }
 
 // Whether a number is zero after its cast, so that it cannot be divided by.
@@ -107,24 +90,17 @@ pub fn is_zero(kind: ElementType, y: i128) -> bool
     is_zero_lane(kind, lane(kind, y))
 }
 
-// The quotient and the remainder of numbers, which are cast to the type.
-fn divide_numbers(kind: ElementType, x: i128, y: i128) -> Division
-    ensures { result ≡ division kind x y }
-{
-    let lanes = divide_lanes(kind, lane(kind, x), lane(kind, y));
-    Division {
-        quotient: value(kind, lanes.quotient),
-        remainder: value(kind, lanes.remainder),
-    }
-}
-
 // The quotient and the remainder of x over y, or None where y is zero after its cast.
+#[tactic(auto, using(crate::proofs::Casts::passed_on))]
 pub fn divide(kind: ElementType, x: i128, y: i128) -> Option<Division>
     ensures { result ≡ divided kind x y }
 {
     if is_zero(kind, y) {
-        None
-    } else {
-        Some(divide_numbers(kind, x, y))
+        return None;
     }
+    let lanes = divide_lanes(kind, lane(kind, x), lane(kind, y));
+    Some(Division {
+        quotient: value(kind, lanes.quotient),
+        remainder: value(kind, lanes.remainder),
+    })
 }

@@ -1,5 +1,7 @@
 // The operations of two operands on lanes. Each is a type, so that a loop over many lanes is
 // compiled for one operation.
+#![tactic(auto, using(crate::proofs::Machine::lane_operations))]
+
 ghost use Rattle.std.specs.Prelude.{◌≡◌, ℕ, ℤ, pos};
 ghost use Rattle.word.specs.Types.{bits};
 ghost use Rattle.scalar.specs.Arithmetic.{compute};
@@ -7,7 +9,7 @@ ghost use Rattle.scalar.specs.Casts.{residue, cast};
 ghost use Rattle.std.specs.Int.{int_max, int_min};
 ghost use Rattle.word.specs.declared.opcodes.Arith.TheVariants.{Add as AddOf, Sub as SubOf, Slt as SltOf, Mul as MulOf, And as AndOf, Or as OrOf, Xor as XorOf, Shl as ShlOf, Shr as ShrOf, Rol as RolOf, Ror as RorOf};
 
-use crate::lanes::{is_less, low, rotate, shift_left, shift_right, truth};
+use crate::lanes::{is_less, low, rotate, shift_left, shift_right};
 use word::ElementType;
 
 pub trait Operation {
@@ -45,7 +47,7 @@ impl Operation for Slt {
     ghost make = { compute SltOf };
 
     fn apply(kind: ElementType, x: u64, y: u64) -> u64 {
-        truth(kind, is_less(kind, x, y))
+        u64::from(is_less(kind, x, y))
     }
 }
 
@@ -115,7 +117,7 @@ impl Operation for Rol {
     ghost make = { compute RolOf };
 
     fn apply(kind: ElementType, x: u64, y: u64) -> u64 {
-        rotate(kind, x, low(kind, y) % kind.bits() as u64)
+        rotate(kind, x, low(kind, y) % u64::from(kind.bits()))
     }
 }
 
@@ -125,7 +127,7 @@ impl Operation for Ror {
     ghost make = { compute RorOf };
 
     fn apply(kind: ElementType, x: u64, y: u64) -> u64 {
-        let bits = kind.bits() as u64;
+        let bits = u64::from(kind.bits());
         rotate(kind, x, bits - low(kind, y) % bits)
     }
 }

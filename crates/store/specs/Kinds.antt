@@ -1,5 +1,5 @@
 -- What each kind of store means. Sizes are cut at the most lines that a store has.
-use Rattle.std.specs.Prelude.{ℕ, ◌+◌, ◌-◌, ◌*◌, ◌/◌, min, false, cond, ◌&&◌, List, [], ◌++◌, length, take, drop, replicate, nat_le, nat_lt}
+use Rattle.std.specs.Prelude.{ℕ, ◌+◌, ◌-◌, ◌*◌, ◌/◌, min, false, if◌then◌else◌, ◌&&◌, List, [], ◌++◌, length, take, drop, replicate, nat_le, nat_lt}
 use Rattle.store.specs.Meaning.{Meaning, most, nothing, loan, both}
 
 -- The 128 bytes from byte 128 × n on, or those of them that are there.
@@ -36,4 +36,4 @@ fuse below m = record { size = m.size; line = m.line; canwrite = λ n. nat_le be
 
 -- A split: the lines of one store, and after them those of another.
 abbrev pub split : Meaning → Meaning → Meaning
-split low high = record { size = min (low.size + high.size) most; line = λ n. cond (nat_lt n low.size) (low.line n) (high.line (n - low.size)); canwrite = λ n. nat_lt n most && cond (nat_lt n low.size) (low.canwrite n) (high.canwrite (n - low.size)); kept = both low.kept high.kept }
+split low high = record { size = min (low.size + high.size) most; line = λ n. if nat_lt n low.size then low.line n else high.line (n - low.size); canwrite = λ n. nat_lt n most && (if nat_lt n low.size then low.canwrite n else high.canwrite (n - low.size)); kept = both low.kept high.kept }

@@ -1,5 +1,5 @@
 -- What a store means.
-use Rattle.std.specs.Prelude.{◌≡◌, ℕ, ◌<◌, ◌≤◌, Bool, true, cond, List, length, ◌==◌}
+use Rattle.std.specs.Prelude.{◌≡◌, ℕ, ◌<◌, ◌≤◌, Bool, true, if◌then◌else◌, List, length, ◌==◌}
 
 -- What a store holds beside its lines and has to give back when it ends: nothing, a loan of bytes (its name, and the bytes past the last whole line), or what two stores hold.
 pub data Kept : Type 0 where
@@ -26,4 +26,4 @@ pub record Sound (m : Meaning) : Type 0 where
 
 -- The store with line n's bytes replaced, and nothing else changed.
 abbrev pub with_line : Meaning → ℕ → List ℕ → Meaning
-with_line m n b = record { size = m.size; line = λ k. cond (k == n) b (m.line k); canwrite = m.canwrite; kept = m.kept }
+with_line m n b = record { size = m.size; line = λ k. if k == n then b else m.line k; canwrite = m.canwrite; kept = m.kept }

@@ -3,7 +3,7 @@ ghost use Rattle.store.specs.Kinds.{fuse};
 ghost use Rattle.store.specs.Sounds.{fuse_sound};
 
 use crate::fault::LineFault;
-use crate::store::{Store, refuse};
+use crate::store::Store;
 
 #[derive(Drop)]
 pub struct Fuse<S> {
@@ -12,9 +12,7 @@ pub struct Fuse<S> {
 }
 
 impl<S: Store> Store for Fuse<S> {
-    ghost meaning = { λ s. fuse s.below (S.Store.meaning s.under) };
-
-    ghost sound = { λ s. fuse_sound s.below (S.Store.meaning s.under) (S.Store.sound s.under) };
+    ghost meaning = { λ s. fuse s.below (S.meaning s.under) };
 
     fn size(&self) -> u32 {
         self.under.size()
@@ -30,8 +28,10 @@ impl<S: Store> Store for Fuse<S> {
 
     fn write(&mut self, line: u32, bytes: &[u8; 128]) -> Result<(), LineFault> {
         if line < self.below {
-            return Err(refuse(&self.under, line));
+            return Err(self.refuse(line));
         }
         self.under.write(line, bytes)
     }
+
+    ghost sound = { λ s. fuse_sound s.below (S.meaning s.under) (S.sound s.under) };
 }

@@ -1,10 +1,9 @@
 // Stores: where the lines lie. One trait says what a store means (its size, the bytes of each line,
-// which lines can be written) and what its four questions answer; RAM, ROM, open bus and the layers
-// fuse and split are stores. It uses the refusals and nothing else.
+// which lines can be written), what its questions answer, and what holds of every store; RAM, ROM,
+// open bus and the layers fuse and split are stores. It uses the refusals and nothing else.
 #![tactic(auto)]
 
 mod fault;
-mod fill;
 mod fuse;
 mod open_bus;
 mod ram;
@@ -18,4 +17,4 @@ pub use open_bus::OpenBus;
 pub use ram::Ram;
 pub use rom::Rom;
 pub use split::Split;
-pub use store::{MOST_LINES, Store, admit, refuse};
+pub use store::{MOST_LINES, Store};

@@ -3,8 +3,7 @@ ghost use Rattle.std.specs.Prelude.{◌≡◌};
 ghost use Rattle.store.specs.Kinds.{open_bus};
 ghost use Rattle.store.specs.Sounds.{open_sound};
 
-use crate::fault::{LineFault, fixed, missing};
-use crate::fill::fill;
+use crate::fault::LineFault;
 use crate::store::{MOST_LINES, Store};
 
 #[derive(Clone, Copy)]
@@ -23,8 +22,6 @@ impl OpenBus {
 impl Store for OpenBus {
     ghost meaning = { λ s. open_bus s.lines };
 
-    ghost sound = { λ s. open_sound s.lines };
-
     fn size(&self) -> u32 {
         self.lines.min(MOST_LINES)
     }
@@ -33,18 +30,17 @@ impl Store for OpenBus {
         false
     }
 
+    #[tactic(auto, unfolding(crate::specs::Kinds::filled))]
     fn read(&self, line: u32, out: &mut [u8; 128]) -> Result<(), LineFault> {
-        if line >= self.size() {
-            return Err(missing(line));
-        }
-        fill(out, &[], 0xFF);
+        self.find(line)?;
+        out.fill(0xFF);
         Ok(())
     }
 
+    // as ROM refuses: a layer for what cannot be written would be longer than two such answers
     fn write(&mut self, line: u32, _bytes: &[u8; 128]) -> Result<(), LineFault> {
-        if line >= self.size() {
-            return Err(missing(line));
-        }
-        Err(fixed(line))
+        Err(self.refuse(line))
     }
+
+    ghost sound = { λ s. open_sound s.lines };
 }

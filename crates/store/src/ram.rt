@@ -4,7 +4,7 @@ ghost use Rattle.store.specs.Kinds.{ram, whole_lines};
 ghost use Rattle.store.specs.Meaning.{with_line};
 ghost use Rattle.store.specs.Sounds.{ram_sound};
 
-use crate::fault::{LineFault, missing};
+use crate::fault::LineFault;
 use crate::store::{MOST_LINES, Store};
 
 #[derive(Drop)]
@@ -28,20 +28,19 @@ impl<'a> Ram<'a> {
         std::mem::replace(self, Ram { bytes: &mut [] })
     }
 
-    // Replaces the bytes of a line that is there.
+    // Replaces the bytes of a line that is there. Lines are slices, in reads too: std says nothing of
+    // what a slice holds once it was written through `as_chunks_mut`.
     fn put(&mut self, line: u32, new: &[u8; 128])
         requires { line < whole_lines self.old.bytes.now }
         ensures { ram self.new.bytes.ghost_name self.new.bytes.now ≡ with_line (ram self.old.bytes.ghost_name self.old.bytes.now) line new.now }
     {
-        let at = line as usize * 128;
+        let at = 128 * line as usize;
         self.bytes[at..at + 128].copy_from_slice(new);
     }
 }
 
 impl<'a> Store for Ram<'a> {
     ghost meaning = { λ s. ram s.bytes.ghost_name s.bytes.now };
-
-    ghost sound = { λ s. ram_sound s.bytes.ghost_name s.bytes.now };
 
     fn size(&self) -> u32 {
         (self.bytes.len() / 128).min(MOST_LINES as usize) as u32
@@ -52,19 +51,17 @@ impl<'a> Store for Ram<'a> {
     }
 
     fn read(&self, line: u32, out: &mut [u8; 128]) -> Result<(), LineFault> {
-        if line >= self.size() {
-            return Err(missing(line));
-        }
-        let at = line as usize * 128;
+        self.find(line)?;
+        let at = 128 * line as usize;
         out.copy_from_slice(&self.bytes[at..at + 128]);
         Ok(())
     }
 
     fn write(&mut self, line: u32, bytes: &[u8; 128]) -> Result<(), LineFault> {
-        if line >= self.size() {
-            return Err(missing(line));
-        }
+        self.admit(line)?;
         self.put(line, bytes);
         Ok(())
     }
+
+    ghost sound = { λ s. ram_sound s.bytes.ghost_name s.bytes.now };
 }

@@ -3,8 +3,7 @@ ghost use Rattle.std.specs.Prelude.{◌≡◌, ◌*◌, ◌≤◌, length};
 ghost use Rattle.store.specs.Kinds.{line_of, rom};
 ghost use Rattle.store.specs.Sounds.{rom_sound};
 
-use crate::fault::{LineFault, fixed, missing};
-use crate::fill::fill;
+use crate::fault::LineFault;
 use crate::store::{MOST_LINES, Store};
 
 #[derive(Drop)]
@@ -23,8 +22,6 @@ impl<'a> Rom<'a> {
 impl<'a> Store for Rom<'a> {
     ghost meaning = { λ s. rom s.bytes.now };
 
-    ghost sound = { λ s. rom_sound s.bytes.now };
-
     fn size(&self) -> u32 {
         self.bytes.len().div_ceil(128).min(MOST_LINES as usize) as u32
     }
@@ -33,28 +30,28 @@ impl<'a> Store for Rom<'a> {
         false
     }
 
+    #[tactic(auto, unfolding(crate::specs::Kinds::filled))]
     fn read(&self, line: u32, out: &mut [u8; 128]) -> Result<(), LineFault> {
-        if line >= self.size() {
-            return Err(missing(line));
-        }
-        fill(out, there(self.bytes, line), 0);
+        self.find(line)?;
+        let part = there(self.bytes, line);
+        let (front, back) = out.split_at_mut(part.len());
+        front.copy_from_slice(part);
+        back.fill(0);
         Ok(())
     }
 
     fn write(&mut self, line: u32, _bytes: &[u8; 128]) -> Result<(), LineFault> {
-        if line >= self.size() {
-            return Err(missing(line));
-        }
-        Err(fixed(line))
+        Err(self.refuse(line))
     }
+
+    ghost sound = { λ s. rom_sound s.bytes.now };
 }
 
-// What is there of a line.
+// What is there of a line, as a slice: its last line may be there in part.
 fn there(bytes: &[u8], line: u32) -> &[u8]
     requires { 128 * line ≤ length bytes.now }
     ensures { (result.now ≡ line_of bytes.now line) × (length result.now ≤ 128) }
 {
-    let at = line as usize * 128;
-    let end = bytes.len().min(at + 128);
-    &bytes[at..end]
+    let rest = &bytes[128 * line as usize..];
+    &rest[..rest.len().min(128)]
 }

@@ -2,7 +2,7 @@
 ghost use Rattle.store.specs.Kinds.{split};
 ghost use Rattle.store.specs.Sounds.{split_sound};
 
-use crate::fault::{LineFault, missing};
+use crate::fault::LineFault;
 use crate::store::{MOST_LINES, Store};
 
 #[derive(Drop)]
@@ -12,9 +12,7 @@ pub struct Split<S, T> {
 }
 
 impl<S: Store, T: Store> Store for Split<S, T> {
-    ghost meaning = { λ s. split (S.Store.meaning s.low) (T.Store.meaning s.high) };
-
-    ghost sound = { λ s. split_sound (S.Store.meaning s.low) (T.Store.meaning s.high) (S.Store.sound s.low) (T.Store.sound s.high) };
+    ghost meaning = { λ s. split (S.meaning s.low) (T.meaning s.high) };
 
     fn size(&self) -> u32 {
         self.low
@@ -27,6 +25,7 @@ impl<S: Store, T: Store> Store for Split<S, T> {
         if line >= MOST_LINES {
             return false;
         }
+        // each question picks low or high by itself, since a write borrows them mutably
         let first = self.low.size();
         if line < first {
             self.low.writable(line)
@@ -36,9 +35,7 @@ impl<S: Store, T: Store> Store for Split<S, T> {
     }
 
     fn read(&self, line: u32, out: &mut [u8; 128]) -> Result<(), LineFault> {
-        if line >= self.size() {
-            return Err(missing(line));
-        }
+        self.find(line)?;
         let first = self.low.size();
         if line < first {
             self.low.read(line, out)
@@ -48,19 +45,15 @@ impl<S: Store, T: Store> Store for Split<S, T> {
     }
 
     fn write(&mut self, line: u32, bytes: &[u8; 128]) -> Result<(), LineFault> {
-        if line >= self.size() {
-            return Err(missing(line));
-        }
+        self.find(line)?;
         let first = self.low.size();
         if line < first {
             return self.low.write(line, bytes);
         }
-        match self.high.write(line - first, bytes) {
-            Ok(()) => Ok(()),
-            Err(fault) => Err(LineFault {
-                cause: fault.cause,
-                line,
-            }),
-        }
+        self.high
+            .write(line - first, bytes)
+            .map_err(|fault| LineFault { line, ..fault })
     }
+
+    ghost sound = { λ s. split_sound (S.meaning s.low) (T.meaning s.high) (S.sound s.low) (T.sound s.high) };
 }

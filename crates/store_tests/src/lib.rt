@@ -5,16 +5,13 @@
 
 #[cfg(test)]
 mod tests {
-    use store::{Fuse, LineFault, OpenBus, Ram, Rom, Split, Store, admit, refuse};
+    use store::{Fuse, LineFault, OpenBus, Ram, Rom, Split, Store};
 
     // Done, or the refusal's number and the line.
     type Answer = Result<(), (u8, u32)>;
 
     fn answer(res: Result<(), LineFault>) -> Answer {
-        match res {
-            Ok(()) => Ok(()),
-            Err(fault) => Err((fault.cause.number(), fault.line)),
-        }
+        res.map_err(|fault| (u8::from(fault.cause), fault.line))
     }
 
     // Reads a line into a record of bytes 0xA5, which a refused read leaves.
@@ -26,11 +23,7 @@ mod tests {
 
     // A line of which byte k is k.
     fn counting() -> [u8; 128] {
-        let mut line = [0; 128];
-        for k in 0..128u8 {
-            line[k as usize] = k;
-        }
-        line
+        std::array::from_fn(|k| k as u8)
     }
 
     // RAM on lines 0 and 1, ROM on 2 and 3, and nothing behind 4, 5 and 6.
@@ -174,11 +167,13 @@ mod tests {
             below: 2,
             under: Ram::new(&mut bytes),
         };
-        assert_eq!(rt; answer(admit(&fuse, 1)), Err((11, 1)));
-        assert_eq!(rt; answer(admit(&fuse, 2)), Ok(()));
-        assert_eq!(rt; answer(admit(&fuse, 3)), Err((10, 3)));
-        assert_eq!(rt; answer(Err(refuse(&fuse, 1))), Err((11, 1)));
-        assert_eq!(rt; answer(Err(refuse(&fuse, 3))), Err((10, 3)));
+        assert_eq!(rt; answer(fuse.admit(1)), Err((11, 1)));
+        assert_eq!(rt; answer(fuse.admit(2)), Ok(()));
+        assert_eq!(rt; answer(fuse.admit(3)), Err((10, 3)));
+        assert_eq!(rt; answer(Err(fuse.refuse(1))), Err((11, 1)));
+        assert_eq!(rt; answer(Err(fuse.refuse(3))), Err((10, 3)));
+        assert_eq!(rt; answer(fuse.find(1)), Ok(()));
+        assert_eq!(rt; answer(fuse.find(3)), Err((10, 3)));
     }
 
     #[test]

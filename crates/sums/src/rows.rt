@@ -1,4 +1,4 @@
-// The rows of the tables.
+// The rows of the table.
 use scalar::Division;
 use word::Operation;
 
@@ -8,10 +8,6 @@ pub struct Sums {
     pub load: Option<Operation>,
     // what the word 0x00000020 decodes to: an add with a one in its unused field d
     pub unused_field: Option<Operation>,
-}
-
-#[derive(Clone, Copy)]
-pub struct ArithmeticSums {
     // 200 cast to s8
     pub cast: i128,
     // s8 -7 over 2

@@ -15,4 +15,4 @@ pub data UndefinedAmong : List ℕ → ℕ → Type 0 where
 -- So many of the words hold no operation in the runs of a store from a line on. The words of a run are counted once, and blank lines are not counted.
 pub data UndefinedFrom : Meaning → ℕ → ℕ → Type 0 where
   no_more : {m : Meaning} {from : ℕ} → NextRun m from None → UndefinedFrom m from 0
-  and_run : {m : Meaning} {from : ℕ} {run : Run} {ws : List ℕ} {n rest : ℕ} → NextRun m from (Some run) → WordsOf run.bytes ws → UndefinedAmong ws n → UndefinedFrom m run.after rest → UndefinedFrom m from (n + rest)
+  and_run : {m : Meaning} {from : ℕ} {run : Run} {ws : List ℕ} {n rest : ℕ} → NextRun m from (Some run) → WordsOf run.line.bytes ws → UndefinedAmong ws n → UndefinedFrom m run.after rest → UndefinedFrom m from (n + rest)

@@ -11,5 +11,5 @@ mod runs;
 
 pub use blank::is_blank;
 pub use counting::{undefined_among, undefined_words};
-pub use outcome::{Outcome, take_image};
-pub use runs::{Run, next_run, run_after};
+pub use outcome::take_image;
+pub use runs::{Line, Run, Runs, next_run, run_after};

@@ -1,71 +1,114 @@
 // Runs of equal lines: the same bytes and the same writability, one line after another.
-ghost use Rattle.survey.specs.Runs.{HasLine, Holds, NextRun, RunAfter};
-ghost use Rattle.std.specs.Prelude.{Decides};
+ghost use Rattle.survey.specs.Runs.{FirstUnlike, GivesRun, LineAt, NextRun, RunAfter, RunAt, line_of};
+ghost use Rattle.std.specs.Iterator.{at_most};
+ghost use Rattle.std.specs.Prelude.{◌≡◌, ◌-◌, ◌<◌};
 
 use crate::blank::is_blank;
 use store::Store;
 
-// The lines from `first` up to `after`, each of which holds these bytes.
+// What a line shows: its bytes, and whether it can be written.
+#[derive(Clone, Copy, PartialEq, Eq)]
+pub struct Line {
+    pub bytes: [u8; 128],
+    pub writable: bool,
+}
+
+// The lines from `first` up to `after`, each of which shows `line`.
 #[derive(Clone, Copy)]
 pub struct Run {
     pub first: u32,
     pub after: u32,
-    pub writable: bool,
-    pub bytes: [u8; 128],
+    pub line: Line,
 }
 
-// Whether the store has the line, with these bytes and this writability.
-fn has_line<S: Store>(store: &S, line: u32, bytes: &[u8; 128], writable: bool) -> bool
-    ensures { Decides result (HasLine (S.Store.meaning store.now) line bytes.now writable) }
+// The line of a number, where the store has it.
+fn line_at<S: Store>(store: &S, number: u32) -> Option<Line>
+    ensures { LineAt (S.meaning store.now) number result }
 {
-    let mut here = [0; 128];
-    match store.read(line, &mut here) {
-        Ok(()) => here == *bytes && store.writable(line) == writable,
-        Err(_) => false,
-    }
+    let mut bytes = [0; 128];
+    store.read(number, &mut bytes).ok()?;
+    Some(Line {
+        bytes,
+        writable: store.writable(number),
+    })
 }
 
-// The line behind the unbroken run of lines that begins at `first` and are equal to it.
+// The first line, from line `from` on, that does not show `line`.
+fn first_unlike<S: Store>(store: &S, from: u32, line: Line) -> Option<u32>
+    ensures { FirstUnlike (S.meaning store.now) from line result }
+{
+    (from..store.size()).find(|number| line_at(store, *number) != Some(line))
+}
+
+// The line behind the unbroken run of lines that begins at `first`, where the store shows `line`.
+fn end_of_run<S: Store>(store: &S, first: u32, line: Line) -> u32
+    requires there { first < (S.meaning store.now).size }
+    requires shown { line ≡ line_of (S.meaning store.now) first }
+    ensures { RunAfter (S.meaning store.now) first result }
+{
+    first_unlike(store, first + 1, line).unwrap_or(store.size())
+}
+
+// The line behind the unbroken run of lines that begins at `first` and are equal to it. Where there is
+// no line `first` the run is empty and ends there, so that any number has an answer.
 pub fn run_after<S: Store>(store: &S, first: u32) -> u32
-    ensures { RunAfter (S.Store.meaning store.now) first result }
+    ensures { RunAfter (S.meaning store.now) first result }
 {
-    let mut bytes = [0; 128];
-    if store.read(first, &mut bytes).is_err() {
-        return first;
+    match line_at(store, first) {
+        Some(line) => end_of_run(store, first, line),
+        None => first,
     }
-    let writable = store.writable(first);
-    for line in first + 1..store.size() {
-        if !has_line(store, line, &bytes, writable) {
-            return line;
-        }
-    }
-    store.size()
 }
 
-// The bytes of a line that is there and not blank.
-fn held<S: Store>(store: &S, line: u32) -> Option<[u8; 128]>
-    ensures { Holds (S.Store.meaning store.now) line result }
+// The run that begins at `first`, where the line is there and not blank.
+fn run_at<S: Store>(store: &S, first: u32) -> Option<Run>
+    ensures { RunAt (S.meaning store.now) first result }
 {
-    let mut bytes = [0; 128];
-    match store.read(line, &mut bytes) {
-        Ok(()) if !is_blank(&bytes) => Some(bytes),
-        _ => None,
+    let line = line_at(store, first)?;
+    if is_blank(&line.bytes) {
+        return None;
     }
+    Some(Run {
+        first,
+        after: end_of_run(store, first, line),
+        line,
+    })
 }
 
 // The first run, from line `from` on, of lines that are not blank.
 pub fn next_run<S: Store>(store: &S, from: u32) -> Option<Run>
-    ensures { NextRun (S.Store.meaning store.now) from result }
+    ensures { NextRun (S.meaning store.now) from result }
 {
-    for first in from..store.size() {
-        if let Some(bytes) = held(store, first) {
-            return Some(Run {
-                first,
-                after: run_after(store, first),
-                writable: store.writable(first),
-                bytes,
-            });
-        }
+    (from..store.size()).find_map(|first| run_at(store, first))
+}
+
+// The runs of a store's lines that are not blank, one after another: those from line `from` on.
+#[derive(Drop)]
+pub struct Runs<'a, S> {
+    store: &'a S,
+    from: u32,
+}
+
+impl<'a, S: Store> Runs<'a, S> {
+    // All runs of the store.
+    pub fn new(store: &'a S) -> Self
+        ensures store { result.store.now ≡ store.now }
+        ensures from { result.from ≡ 0 }
+    {
+        Runs { store, from: 0 }
     }
-    None
+}
+
+impl<'a, S: Store> Iterator for Runs<'a, S> {
+    type Item = Run;
+
+    ghost next_gives = { λ s r t. (t.store ≡ s.store) × GivesRun (S.meaning s.store.now) s.from r t.from };
+
+    ghost remaining = { λ s. at_most ((S.meaning s.store.now).size - s.from) };
+
+    fn next(&mut self) -> Option<Run> {
+        let run = next_run(self.store, self.from)?;
+        self.from = run.after;
+        Some(run)
+    }
 }

@@ -1,9 +1,9 @@
 -- Numbers written in hexadecimal, as ASCII bytes.
-use Rattle.std.specs.Prelude.{cond, List, [], ◌∷◌, ℕ, ◌+◌, ◌-◌, ◌/◌, ◌%◌, ◌^◌, nat_lt}
+use Rattle.std.specs.Prelude.{if◌then◌else◌, List, [], ◌∷◌, ℕ, ◌+◌, ◌-◌, ◌/◌, ◌%◌, ◌^◌, nat_lt}
 
 -- The byte of a digit below 16: 0 to 9, which start at byte 48, and then A to F, which start at 65.
 abbrev pub digit : ℕ → ℕ
-digit d = cond (nat_lt d 10) (48 + d) (65 + (d - 10))
+digit d = if nat_lt d 10 then 48 + d else 65 + (d - 10)
 
 -- The digit of `n` that counts 16 ^ k.
 abbrev pub at : ℕ → ℕ → ℕ

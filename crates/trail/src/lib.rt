@@ -3,8 +3,7 @@
 // keeps the name of the loan, which is how a caller knows its own slots. It uses `refusal` only.
 #![tactic(auto)]
 
-ghost use Rattle.std.specs.Prelude.{◌≡◌, ◌+◌, ◌<◌, min, [], ◌∷◌, ◌++◌, length, take, drop};
-ghost use Rattle.trail.specs.Trails.{held, space, Added, Adds};
+ghost use Rattle.std.specs.Prelude.{◌≡◌, ◌≤◌, min, [], ◌∷◌, length, take};
 
 use refusal::Refusal;
 
@@ -13,9 +12,12 @@ use refusal::Refusal;
 pub struct Trail<'a, T> {
     slots: &'a mut [T],
     used: usize,
+    ghost within: { used ≤ length slots.now },
 }
 
 impl<'a, T: Drop> Trail<'a, T> {
+    ghost use Rattle.trail.specs.Trails.{held, space, Added, Adds};
+
     // A trail that holds no record, over the caller's slots.
     pub fn new(slots: &'a mut [T]) -> Self
         ensures same { result.slots.now ≡ slots.old }
@@ -29,7 +31,7 @@ impl<'a, T: Drop> Trail<'a, T> {
     pub fn space(&self) -> usize
         ensures { result ≡ space self.now }
     {
-        self.slots.len().saturating_sub(self.used)
+        self.slots.len() - self.used
     }
 
     // Puts the record behind those held; a full trail refuses it and lets it go.
@@ -39,8 +41,7 @@ impl<'a, T: Drop> Trail<'a, T> {
         if self.space() == 0 {
             return Err(Refusal::FullTrail);
         }
-        let place = self.used;
-        put(self.slots, place, record);
+        self.slots[self.used] = record;
         self.used += 1;
         Ok(())
     }
@@ -52,35 +53,17 @@ impl<'a, T: Drop> Trail<'a, T> {
         ensures count { result ≡ min (space self.old) (length records.now) }
         ensures added { Added self.old self.new (take result records.now) }
     {
-        for (i, record) in records.iter().enumerate() {
-            if self.add(*record).is_err() {
-                return i;
-            }
-        }
-        records.len()
+        let count = self.space().min(records.len());
+        let end = self.used + count;
+        self.slots[self.used..end].copy_from_slice(&records[..count]);
+        self.used = end;
+        count
     }
 
     // The records held, in the order in which they were added.
     pub fn records(&self) -> &[T]
         ensures { result.now ≡ held self.now }
     {
-        front(self.slots, self.used)
+        &self.slots[..self.used]
     }
-}
-
-// Writes one slot; those before it and those behind it stay.
-fn put<T: Drop>(slots: &mut [T], place: usize, record: T)
-    requires { place < length slots.old }
-    ensures front { take (place + 1) slots.new ≡ take place slots.old ++ «record» ∷ [] }
-    ensures back { drop (place + 1) slots.new ≡ drop (place + 1) slots.old }
-{
-    slots[place] = record;
-}
-
-// The first `count` slots, or all where there are no more.
-fn front<T>(slots: &[T], count: usize) -> &[T]
-    ensures { result.now ≡ take count slots.now }
-{
-    let within = count.min(slots.len());
-    &slots[0..within]
 }

@@ -1,9 +1,9 @@
 -- What reading and writing a word answer.
-use Rattle.std.specs.Prelude.{◌≡◌, ℕ, List, Some, None, Ok, Err, Option, Result}
+use Rattle.std.specs.Prelude.{◌≡◌, ℕ, ◌*◌, ◌^◌, List, Some, None, Ok, Err, Option, Result}
 use Rattle.refusal.specs.declared.Refusal.{Refusal}
 use Rattle.refusal.specs.declared.Refusal.TheVariants.{NoWord}
 use Rattle.word.specs.Codes.{Codes}
-use Rattle.word.specs.Fields.{Field, AllFit, Made}
+use Rattle.word.specs.Fields.{Field, Fits, bits_of, AllFit, Made}
 use Rattle.word.specs.declared.operations.Operation.{Operation}
 
 -- The word w is defined: it holds some operation.
@@ -35,6 +35,12 @@ Put op (Err e) = (e ≡ NoWord) × (Held op → ⊥)
 pub record Coded (op : Operation) (r : Result ℕ Refusal) : Type 0 where
   pub put : Put op r
   pub held : (w : ℕ) → Codes op w → r ≡ Ok w
+
+-- Writing a field at a place answers its bits from bit `at` up, and is refused as NoWord where it does
+-- not fit.
+abbrev pub Placed : Field → ℕ → Result ℕ Refusal → Type 0
+Placed f at (Ok n) = Fits f × (n ≡ bits_of f * 2 ^ at)
+Placed f at (Err e) = (e ≡ NoWord) × (Fits f → ⊥)
 
 -- Writing a list of fields answers the word that is made of them, and is refused as NoWord where
 -- one of them does not fit.

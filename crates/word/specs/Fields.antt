@@ -1,5 +1,5 @@
 -- Fields of bits, and how they stand in a word.
-use Rattle.std.specs.Prelude.{◌≡◌, ℕ, suc, ◌+◌, ◌-◌, ◌*◌, ◌^◌, ◌<◌, List, [], ◌∷◌, ℤ, pos, negsuc}
+use Rattle.std.specs.Prelude.{◌≡◌, ℕ, suc, ◌+◌, ◌-◌, ◌*◌, ◌/◌, ◌%◌, ◌^◌, ◌<◌, List, [], ◌∷◌, ℤ, pos, negsuc}
 
 -- A field: a number, a number that is not 0, or a signed number, in so many bits.
 pub data Field : Type 0 where
@@ -48,3 +48,7 @@ packed high (f ∷ fs) = packed (high * 2 ^ width f + bits_of f) fs
 -- The word w is made of these fields, its highest bits first.
 abbrev pub Made : List Field → ℕ → Type 0
 Made fs w = AllFit fs × (w ≡ packed 0 fs)
+
+-- The number that the n bits of the word w from bit `at` up make.
+abbrev pub extract : ℕ → ℕ → ℕ → ℕ
+extract w at n = w / 2 ^ at % 2 ^ n

@@ -4,3 +4,4 @@ pub mod Fields
 pub mod Codes
 pub mod Decodes
 pub mod Lines
+pub mod Texts

@@ -1,7 +1,8 @@
 -- Every case of the enums that stand as a number in a word, with its number.
-use Rattle.std.specs.Prelude.{◌≡◌, ℕ, Some, None, Option, ◌≢◌}
+use Rattle.std.specs.Prelude.{◌≡◌, ℕ, Ok, Err, Result, ◌≢◌}
 use Rattle.word.specs.declared.element.ElementType.{ElementType}
 use Rattle.word.specs.declared.element.ElementType.TheVariants.{U8, S8, U16, S16, U32, S32, U64, S64}
+use Rattle.word.specs.declared.numbers.UnknownNumber.{UnknownNumber}
 use Rattle.word.specs.declared.opcodes.Arith.{Arith}
 use Rattle.word.specs.declared.opcodes.Arith.TheVariants.{Add, Sub, Slt, Mul, And, Or, Xor, Shl, Shr, Rol, Ror, Addr}
 use Rattle.word.specs.declared.opcodes.Reduction.{Reduction}
@@ -59,7 +60,7 @@ abbrev pub form_number : Form → ℕ
 form_number Scalar = 0
 form_number Vector = 1
 
--- r is the case that has the number n, or None where no case has it.
-abbrev pub Named : {T : Type 0} → (T → ℕ) → ℕ → Option T → Type 0
-Named number n (Some t) = number t ≡ n
-Named {T} number n None = (t : T) → number t ≢ n
+-- r is the case that has the number n, or, where no case has it, the error that holds n.
+abbrev pub Named : {T : Type 0} → (T → ℕ) → ℕ → Result T UnknownNumber → Type 0
+Named number n (Ok t) = number t ≡ n
+Named {T} number n (Err e) = (e.0 ≡ n) × ((t : T) → number t ≢ n)

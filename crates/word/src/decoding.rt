@@ -1,11 +1,11 @@
-// Reading a word: one function to a group, and `decode`, which picks by the group. Each promises
-// `Decodes` for the words of its group.
-ghost use Rattle.std.specs.Prelude.{◌≡◌, ◌/◌, ◌%◌, ◌^◌, ◌≤◌};
+// Reading a word: `decode` picks by the group. A group with one format and no condition but z = 0 is read
+// in its arm, and each other group has a function. Each promises `Decodes` for the words of its group,
+// which it requires: a type for the words of one group would be longer than these four clauses.
+ghost use Rattle.std.specs.Prelude.{◌≡◌, ◌/◌, ◌^◌};
 ghost use Rattle.word.specs.Decodes.{Decodes};
 
-use crate::element::ElementType;
 use crate::fields::*;
-use crate::opcodes::{Arith, Form, Reduction, Special};
+use crate::opcodes::Special;
 use crate::operations::Operation;
 
 // Group 0: a6 b6 c6 d5 v1 o4.
@@ -13,95 +13,15 @@ fn arithmetic(word: u32) -> Option<Operation>
     requires { word / 2 ^ 28 ≡ 0 }
     ensures { Decodes word result }
 {
-    let (a, b, c) = (field_a(word), field_b(word), field(word, C_AT, REGISTERS));
-    let d = field(word, SHORT_D_AT, SHORT_REGISTERS);
-    let v = field(word, V_AT, FORMS);
-    let o = opcode(word);
-    match o {
-        0..=11 if d == 0 => {
-            let op = Arith::from_number(o)?;
-            let form = Form::from_number(v)?;
+    let (a, b, c, d) = (A.read(word), B.read(word), C.read(word), SHORT_D.read(word));
+    let form = V.named(word)?;
+    match OPCODE.read(word) {
+        o if o == DIV + u8::from(form) => Some(Operation::Div { form, a, b, c, d }),
+        _ if d != 0 => None,
+        _ => {
+            let op = OPCODE.named(word)?;
             Some(Operation::Arith { op, form, a, b, c })
         }
-        DIV_SCALAR if v == 0 => Some(Operation::Div {
-            form: Form::Scalar,
-            a,
-            b,
-            c,
-            d,
-        }),
-        DIV_VECTOR if v == 1 => Some(Operation::Div {
-            form: Form::Vector,
-            a,
-            b,
-            c,
-            d,
-        }),
-        _ => None,
-    }
-}
-
-// Group 1: a6 b6 z12 o4.
-fn reduce(word: u32) -> Option<Operation>
-    requires { word / 2 ^ 28 ≡ 1 }
-    ensures { Decodes word result }
-{
-    let (a, b) = (field_a(word), field_b(word));
-    let o = opcode(word);
-    match o {
-        0..=4 if bits(word, ABOVE_OPCODE, Z12) == 0 => {
-            let op = Reduction::from_number(o)?;
-            Some(Operation::Reduce { op, a, b })
-        }
-        _ => None,
-    }
-}
-
-// Group 2: a6 b6 i12 o4.
-fn load(word: u32) -> Option<Operation>
-    requires { word / 2 ^ 28 ≡ 2 }
-    ensures { Decodes word result }
-{
-    let (a, b, i) = (field_a(word), field_b(word), field_i(word));
-    let o = opcode(word);
-    match o {
-        0..=7 => {
-            let kind = ElementType::from_number(o)?;
-            Some(Operation::Load { kind, a, b, i })
-        }
-        _ => None,
-    }
-}
-
-// Group 3: a6 b6 i12 o4.
-fn store(word: u32) -> Option<Operation>
-    requires { word / 2 ^ 28 ≡ 3 }
-    ensures { Decodes word result }
-{
-    let (a, b, i) = (field_a(word), field_b(word), field_i(word));
-    let o = opcode(word);
-    match o {
-        0..=7 => {
-            let kind = ElementType::from_number(o)?;
-            Some(Operation::Store { kind, a, b, i })
-        }
-        _ => None,
-    }
-}
-
-// Group 4: a6 b6 z12 o4.
-fn dup(word: u32) -> Option<Operation>
-    requires { word / 2 ^ 28 ≡ 4 }
-    ensures { Decodes word result }
-{
-    let (a, b) = (field_a(word), field_b(word));
-    let o = opcode(word);
-    match o {
-        0..=7 if bits(word, ABOVE_OPCODE, Z12) == 0 => {
-            let kind = ElementType::from_number(o)?;
-            Some(Operation::Dup { kind, a, b })
-        }
-        _ => None,
     }
 }
 
@@ -110,15 +30,10 @@ fn fetch(word: u32) -> Option<Operation>
     requires { word / 2 ^ 28 ≡ 5 }
     ensures { Decodes word result }
 {
-    let a = field_a(word);
-    let j = field(word, J_AT, COUNTS);
-    match word % 2 {
-        1 if a + j <= LAST_FETCHED => Some(Operation::Fetch {
-            a,
-            b: field_b(word),
-            i: short_i(word),
-            j,
-        }),
+    let (a, b, j) = (A.read(word), B.read(word), J.read(word));
+    let i = SHORT_I.read_signed(word);
+    match SHORT_OPCODE.read(word) {
+        1 if a + j <= LAST_FETCHED => Some(Operation::Fetch { a, b, i, j }),
         _ => None,
     }
 }
@@ -128,9 +43,11 @@ fn jump(word: u32) -> Option<Operation>
     requires { word / 2 ^ 28 ≡ 6 }
     ensures { Decodes word result }
 {
-    let (a, b, w) = (field_a(word), field_b(word), field(word, W_AT, PLACES));
-    match opcode(word) {
-        _ if b == 0 || bits(word, ABOVE_OPCODE, Z7) != 0 => None,
+    let (a, b, w) = (A.read(word), B.read(word), W.read(word));
+    if b == 0 || !Z7.is_zero(word) {
+        return None;
+    }
+    match OPCODE.read(word) {
         JUMP_NOT_ZERO => Some(Operation::JumpNotZero { a, b, w }),
         JUMP_ZERO => Some(Operation::JumpZero { a, b, w }),
         HAND if a == 0 => Some(Operation::Hand { b, w }),
@@ -138,37 +55,24 @@ fn jump(word: u32) -> Option<Operation>
     }
 }
 
-// Group 8: a6 b6 c6 d6 o4.
+// Group 8: a6 b6 c6 d6 o4. cpy has two opcodes to a special register, out of it and into it.
 fn system(word: u32) -> Option<Operation>
     requires { word / 2 ^ 28 ≡ 8 }
     ensures { Decodes word result }
 {
-    let (a, b, c, d) = (
-        field_a(word),
-        field_b(word),
-        field(word, C_AT, REGISTERS),
-        field(word, D_AT, REGISTERS),
-    );
-    match opcode(word) {
-        0..=11 if bits(word, ABOVE_OPCODE, B_TO_D) == 0 => copy(word),
-        SWI => Some(Operation::Swi { a, b, c, d }),
-        RETI if bits(word, ABOVE_OPCODE, A_TO_D) == 0 => Some(Operation::Reti),
-        RETX if bits(word, ABOVE_OPCODE, A_TO_D) == 0 => Some(Operation::Retx),
+    let (a, b, c, d) = (A.read(word), B.read(word), C.read(word), D.read(word));
+    match (OPCODE.read(word), a, b, c, d) {
+        (SWI, ..) => Some(Operation::Swi { a, b, c, d }),
+        (RETI, 0, 0, 0, 0) => Some(Operation::Reti),
+        (RETX, 0, 0, 0, 0) => Some(Operation::Retx),
+        (o, _, 0, 0, 0) => {
+            let register = Special::try_from(o / 2).ok()?;
+            Some(match o % 2 {
+                0 => Operation::CopyOut { from: register, a },
+                _ => Operation::CopyIn { to: register, a },
+            })
+        }
         _ => None,
-    }
-}
-
-// The opcodes of cpy: two to a special register, out of it and into it.
-fn copy(word: u32) -> Option<Operation>
-    requires { (word / 2 ^ 28 ≡ 8) × ((word % 2 ^ 4 ≤ 11) × (word / 2 ^ 4 % 2 ^ 18 ≡ 0)) }
-    ensures { Decodes word result }
-{
-    let a = field_a(word);
-    let o = opcode(word);
-    let register = Special::from_number(o / 2)?;
-    match o % 2 {
-        0 => Some(Operation::CopyOut { from: register, a }),
-        _ => Some(Operation::CopyIn { to: register, a }),
     }
 }
 
@@ -176,12 +80,27 @@ fn copy(word: u32) -> Option<Operation>
 pub fn decode(word: u32) -> Option<Operation>
     ensures { Decodes word result }
 {
-    match field(word, GROUP_AT, GROUPS) {
+    let (a, b) = (A.read(word), B.read(word));
+    // Load and store, and reduce and dup, differ in the case alone: one function for two arms would take
+    // a closure that makes the case.
+    match GROUP.read(word) {
         ARITHMETIC => arithmetic(word),
-        REDUCE => reduce(word),
-        LOAD => load(word),
-        STORE => store(word),
-        DUP => dup(word),
+        REDUCE if Z12.is_zero(word) => {
+            let op = OPCODE.named(word)?;
+            Some(Operation::Reduce { op, a, b })
+        }
+        LOAD => {
+            let (kind, i) = (OPCODE.named(word)?, I.read_signed(word));
+            Some(Operation::Load { kind, a, b, i })
+        }
+        STORE => {
+            let (kind, i) = (OPCODE.named(word)?, I.read_signed(word));
+            Some(Operation::Store { kind, a, b, i })
+        }
+        DUP if Z12.is_zero(word) => {
+            let kind = OPCODE.named(word)?;
+            Some(Operation::Dup { kind, a, b })
+        }
         FETCH => fetch(word),
         JUMP => jump(word),
         SYSTEM => system(word),

@@ -1,8 +1,8 @@
 // The instruction words of the machine: which operation a word of 32 bits holds, and which word
 // holds an operation. `decode` reads a word, `code` writes one, and `words` cuts a line of 128
 // bytes into its 32 words. The types of elements, which words name, are here too, with their numbers,
-// widths and signs. What an operation does is no part of this crate. It uses `refusal` for the one
-// refusal of `code`, and nothing else.
+// widths and signs, and so is how an operation is written for people to read. What it does is no part
+// of this crate. It uses `refusal` for the one refusal of `code`, and nothing else.
 #![tactic(auto)]
 
 mod coding;
@@ -10,14 +10,17 @@ mod decoding;
 pub mod element;
 mod fields;
 mod lines;
+mod numbers;
 pub mod opcodes;
 pub mod operations;
 mod round_trips;
+mod texts;
 
 pub use coding::code;
 pub use decoding::decode;
 pub use element::ElementType;
 pub use lines::words;
+pub use numbers::UnknownNumber;
 pub use opcodes::{Arith, Form, Reduction, Special};
 pub use operations::Operation;
 pub use round_trips::{recode, redecode};

@@ -2,7 +2,11 @@
 ghost use Rattle.std.specs.Prelude.{◌≡◌, ◌*◌, ◌<◌};
 ghost use Rattle.word.specs.Lines.{little_endian, WordsOf};
 
+use std::array;
+
 // Word k of a line: the little-endian number of four bytes.
+// By index, as with `as_chunks::<4>()` the goal on word k of `words` stays open: the chunks that the
+// closure has at turn k are not tied to those of the line.
 fn word_at(line: &[u8; 128], k: usize) -> u32
     requires { k < 32 }
     ensures { result ≡ little_endian line.now (4 * k) }
@@ -15,9 +19,5 @@ fn word_at(line: &[u8; 128], k: usize) -> u32
 pub fn words(line: &[u8; 128]) -> [u32; 32]
     ensures { WordsOf line.now result }
 {
-    let mut all = [0; 32];
-    for k in 0..32 {
-        all[k] = word_at(line, k);
-    }
-    all
+    array::from_fn(|k| word_at(line, k))
 }

@@ -1,63 +1,57 @@
 // The families of operations that share one word format and differ in a number: arithmetic,
 // reductions, special registers, and the form, scalar or vector. specs/Numbers.antt holds the
 // number of each case.
+// From and TryFrom stand written out for each enum: the gate refuses an impl that a macro writes.
 ghost use Rattle.word.specs.Numbers.{arith_number, reduction_number, special_number, form_number, Named};
 ghost use Rattle.std.specs.Prelude.{◌≡◌};
+
+use crate::numbers::UnknownNumber;
 
 // The operations on two operands with one result.
 #[derive(Clone, Copy, PartialEq, Eq, Debug)]
 pub enum Arith {
-    Add,
-    Sub,
-    Slt,
-    Mul,
-    And,
-    Or,
-    Xor,
-    Shl,
-    Shr,
-    Rol,
-    Ror,
-    Addr,
+    Add = 0,
+    Sub = 1,
+    Slt = 2,
+    Mul = 3,
+    And = 4,
+    Or = 5,
+    Xor = 6,
+    Shl = 7,
+    Shr = 8,
+    Rol = 9,
+    Ror = 10,
+    Addr = 11,
 }
 
-impl Arith {
-    pub(crate) fn number(self) -> u8
-        ensures { result ≡ arith_number self }
-    {
-        match self {
-            Arith::Add => 0,
-            Arith::Sub => 1,
-            Arith::Slt => 2,
-            Arith::Mul => 3,
-            Arith::And => 4,
-            Arith::Or => 5,
-            Arith::Xor => 6,
-            Arith::Shl => 7,
-            Arith::Shr => 8,
-            Arith::Rol => 9,
-            Arith::Ror => 10,
-            Arith::Addr => 11,
-        }
-    }
+impl From<Arith> for u8 {
+    ghost from_gives = { λ op n. n ≡ arith_number op };
 
-    pub(crate) fn from_number(number: u8) -> Option<Arith>
-        ensures { Named arith_number number result }
-    {
+    fn from(op: Arith) -> u8 {
+        op as u8
+    }
+}
+
+impl TryFrom<u8> for Arith {
+    type Error = UnknownNumber;
+
+    ghost try_from_gives = { Named arith_number };
+
+    fn try_from(number: u8) -> Result<Arith, UnknownNumber> {
         match number {
-            0 => Some(Arith::Add),
-            1 => Some(Arith::Sub),
-            2 => Some(Arith::Slt),
-            3 => Some(Arith::Mul),
-            4 => Some(Arith::And),
-            5 => Some(Arith::Or),
-            6 => Some(Arith::Xor),
-            7 => Some(Arith::Shl),
-            8 => Some(Arith::Shr),
-            9 => Some(Arith::Rol),
-            10 => Some(Arith::Ror),
-            11 => Some(Arith::Addr),
-            _ => None,
+            0 => Ok(Arith::Add),
+            1 => Ok(Arith::Sub),
+            2 => Ok(Arith::Slt),
+            3 => Ok(Arith::Mul),
+            4 => Ok(Arith::And),
+            5 => Ok(Arith::Or),
+            6 => Ok(Arith::Xor),
+            7 => Ok(Arith::Shl),
+            8 => Ok(Arith::Shr),
+            9 => Ok(Arith::Rol),
+            10 => Ok(Arith::Ror),
+            11 => Ok(Arith::Addr),
+            _ => Err(UnknownNumber(number)),
         }
     }
 }
@@ -65,36 +59,34 @@ impl Arith {
 // The operations that join every element of a line into one.
 #[derive(Clone, Copy, PartialEq, Eq, Debug)]
 pub enum Reduction {
-    Add,
-    Mul,
-    Max,
-    Min,
-    And,
+    Add = 0,
+    Mul = 1,
+    Max = 2,
+    Min = 3,
+    And = 4,
 }
 
-impl Reduction {
-    pub(crate) fn number(self) -> u8
-        ensures { result ≡ reduction_number self }
-    {
-        match self {
-            Reduction::Add => 0,
-            Reduction::Mul => 1,
-            Reduction::Max => 2,
-            Reduction::Min => 3,
-            Reduction::And => 4,
-        }
-    }
+impl From<Reduction> for u8 {
+    ghost from_gives = { λ op n. n ≡ reduction_number op };
 
-    pub(crate) fn from_number(number: u8) -> Option<Reduction>
-        ensures { Named reduction_number number result }
-    {
+    fn from(op: Reduction) -> u8 {
+        op as u8
+    }
+}
+
+impl TryFrom<u8> for Reduction {
+    type Error = UnknownNumber;
+
+    ghost try_from_gives = { Named reduction_number };
+
+    fn try_from(number: u8) -> Result<Reduction, UnknownNumber> {
         match number {
-            0 => Some(Reduction::Add),
-            1 => Some(Reduction::Mul),
-            2 => Some(Reduction::Max),
-            3 => Some(Reduction::Min),
-            4 => Some(Reduction::And),
-            _ => None,
+            0 => Ok(Reduction::Add),
+            1 => Ok(Reduction::Mul),
+            2 => Ok(Reduction::Max),
+            3 => Ok(Reduction::Min),
+            4 => Ok(Reduction::And),
+            _ => Err(UnknownNumber(number)),
         }
     }
 }
@@ -102,39 +94,36 @@ impl Reduction {
 // The special registers, which cpy copies to and from a data register.
 #[derive(Clone, Copy, PartialEq, Eq, Debug)]
 pub enum Special {
-    Ie,
-    Xct,
-    Swiarg0,
-    Swiarg1,
-    Swiarg2,
-    Swiarg3,
+    Ie = 0,
+    Xct = 1,
+    Swiarg0 = 2,
+    Swiarg1 = 3,
+    Swiarg2 = 4,
+    Swiarg3 = 5,
 }
 
-impl Special {
-    pub(crate) fn number(self) -> u8
-        ensures { result ≡ special_number self }
-    {
-        match self {
-            Special::Ie => 0,
-            Special::Xct => 1,
-            Special::Swiarg0 => 2,
-            Special::Swiarg1 => 3,
-            Special::Swiarg2 => 4,
-            Special::Swiarg3 => 5,
-        }
-    }
+impl From<Special> for u8 {
+    ghost from_gives = { λ register n. n ≡ special_number register };
 
-    pub(crate) fn from_number(number: u8) -> Option<Special>
-        ensures { Named special_number number result }
-    {
+    fn from(register: Special) -> u8 {
+        register as u8
+    }
+}
+
+impl TryFrom<u8> for Special {
+    type Error = UnknownNumber;
+
+    ghost try_from_gives = { Named special_number };
+
+    fn try_from(number: u8) -> Result<Special, UnknownNumber> {
         match number {
-            0 => Some(Special::Ie),
-            1 => Some(Special::Xct),
-            2 => Some(Special::Swiarg0),
-            3 => Some(Special::Swiarg1),
-            4 => Some(Special::Swiarg2),
-            5 => Some(Special::Swiarg3),
-            _ => None,
+            0 => Ok(Special::Ie),
+            1 => Ok(Special::Xct),
+            2 => Ok(Special::Swiarg0),
+            3 => Ok(Special::Swiarg1),
+            4 => Ok(Special::Swiarg2),
+            5 => Ok(Special::Swiarg3),
+            _ => Err(UnknownNumber(number)),
         }
     }
 }
@@ -142,27 +131,28 @@ impl Special {
 // Whether an operation works on one element or on every element of a line.
 #[derive(Clone, Copy, PartialEq, Eq, Debug)]
 pub enum Form {
-    Scalar,
-    Vector,
+    Scalar = 0,
+    Vector = 1,
 }
 
-impl Form {
-    pub(crate) fn number(self) -> u8
-        ensures { result ≡ form_number self }
-    {
-        match self {
-            Form::Scalar => 0,
-            Form::Vector => 1,
-        }
-    }
+impl From<Form> for u8 {
+    ghost from_gives = { λ form n. n ≡ form_number form };
 
-    pub(crate) fn from_number(number: u8) -> Option<Form>
-        ensures { Named form_number number result }
-    {
+    fn from(form: Form) -> u8 {
+        form as u8
+    }
+}
+
+impl TryFrom<u8> for Form {
+    type Error = UnknownNumber;
+
+    ghost try_from_gives = { Named form_number };
+
+    fn try_from(number: u8) -> Result<Form, UnknownNumber> {
         match number {
-            0 => Some(Form::Scalar),
-            1 => Some(Form::Vector),
-            _ => None,
+            0 => Ok(Form::Scalar),
+            1 => Ok(Form::Vector),
+            _ => Err(UnknownNumber(number)),
         }
     }
 }

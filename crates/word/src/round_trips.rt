@@ -9,11 +9,7 @@ use crate::operations::Operation;
 pub fn recode(word: u32) -> Option<u32>
     ensures { Recoded word result }
 {
-    let op = decode(word)?;
-    match code(op) {
-        Ok(again) => Some(again),
-        Err(_) => None,
-    }
+    code(decode(word)?).ok()
 }
 
 // An operation that some word holds, written and read again, is the same operation; one that no
@@ -21,8 +17,5 @@ pub fn recode(word: u32) -> Option<u32>
 pub fn redecode(op: Operation) -> Option<Operation>
     ensures { Redecoded op result }
 {
-    match code(op) {
-        Ok(word) => decode(word),
-        Err(_) => None,
-    }
+    code(op).ok().and_then(decode)
 }

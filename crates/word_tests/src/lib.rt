@@ -7,8 +7,8 @@ mod tests {
     use refusal::Refusal;
     use std::process::Abort;
     use word::{
-        Arith, ElementType, Form, Operation, Reduction, Special, code, decode, recode, redecode,
-        words,
+        Arith, ElementType, Form, Operation, Reduction, Special, UnknownNumber, code, decode,
+        recode, redecode, words,
     };
 
     // The word holds the operation: each is read and written as the other, and both come back.
@@ -43,11 +43,11 @@ mod tests {
             (6, ElementType::U64),
             (7, ElementType::S64),
         ] {
-            assert_eq!(rt; kind.number(), number);
-            assert_eq!(rt; ElementType::from_number(number), Some(kind));
+            assert_eq!(rt; u8::from(kind), number);
+            assert_eq!(rt; ElementType::try_from(number), Ok(kind));
         }
-        assert_eq!(rt; ElementType::from_number(8), None);
-        assert_eq!(rt; ElementType::from_number(255), None);
+        assert_eq!(rt; ElementType::try_from(8), Err(UnknownNumber(8)));
+        assert_eq!(rt; ElementType::try_from(255), Err(UnknownNumber(255)));
     }
 
     // The vector form is the scalar form with a 1 in v.
@@ -363,10 +363,7 @@ mod tests {
     // Bytes 0 to 3 are word 0, the lowest first, and bytes 124 to 127 are word 31.
     #[test]
     fn a_line_has_32_words(rt: HostRuntime) {
-        let mut line = [0; 128];
-        for k in 0..128u8 {
-            line[k as usize] = k;
-        }
+        let line: [u8; 128] = std::array::from_fn(|k| k as u8);
         let all = words(&line);
         assert_eq!(rt; all[0], 0x03020100);
         assert_eq!(rt; all[1], 0x07060504);

@@ -1,9 +1,7 @@
-use Rattle.std.proofs.Common.{◌-◌, ◌≤◌, length}
-use Rattle.image.proofs.Checking.{Unchecked}
+use Rattle.std.proofs.Common.{◌≡◌}
+use Rattle.image.proofs.Checking.{UncheckedFrom}
 use Rattle.image.proofs.places.check_places.Given as goal
 
 abbrev pub invariant-loop-place : goal.invariant-loop-place
-invariant-loop-place g l = (l.at ≤ length l.image) × Unchecked (g.S.Store.meaning l.store) l.image l.at
-
-abbrev pub decreases-loop-place : goal.decreases-loop-place
-decreases-loop-place g l = length l.image - l.at
+invariant-loop-place g l =
+    (l.place-iterator.image.now ≡ l.image) × UncheckedFrom (g.S.Store.meaning l.store) l.image l.place-iterator.at

@@ -5,7 +5,6 @@ use Rattle.line.proofs.dividing.divide_as.Given as goal
 use Rattle.scalar.specs.Arithmetic.{quotient, remainder}
 
 abbrev pub invariant-loop-k : goal.invariant-loop-k
-invariant-loop-k g l =
-    let t = g.T.Kind.kind in
-    Made t (λ k. quotient t (element t l.x k) (element t l.y k)) l.quotients l.k
-    × Made t (λ k. remainder t (element t l.x k) (element t l.y k)) l.remainders l.k
+invariant-loop-k l =
+    Made l.kind (λ k. quotient l.kind (element l.kind l.x k) (element l.kind l.y k)) l.quotients l.k
+    × Made l.kind (λ k. remainder l.kind (element l.kind l.x k) (element l.kind l.y k)) l.remainders l.k

@@ -5,4 +5,4 @@ use Rattle.line.specs.Elements.{element}
 use Rattle.line.proofs.dividing.has_zero_as.Given as goal
 
 abbrev pub invariant-loop-k : goal.invariant-loop-k
-invariant-loop-k g l = l.found ≡ somewhere (λ k. eqb (nat_abs (element g.T.Kind.kind l.line k)) 0) l.k
+invariant-loop-k l = l.found ≡ somewhere (λ k. eqb (nat_abs (element l.kind l.line k)) 0) l.k

@@ -5,6 +5,4 @@ use Rattle.line.proofs.vectors.apply_as.Given as goal
 use Rattle.scalar.specs.Arithmetic.{applied}
 
 abbrev pub invariant-loop-k : goal.invariant-loop-k
-invariant-loop-k g l =
-    let t = g.T.Kind.kind in
-    Made t (λ k. applied g.O.Operation.make t (element t l.x k) (element t l.y k)) l.made l.k
+invariant-loop-k g l = Made l.kind (λ k. applied g.O.Operation.make l.kind (element l.kind l.x k) (element l.kind l.y k)) l.made l.k

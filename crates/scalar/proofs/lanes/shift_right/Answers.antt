@@ -1,10 +1,9 @@
-use Rattle.std.proofs.Common.{◌≡◌, ◌-◌, ◌%◌, ◌^◌, ◌<◌, ◌≤◌, min, pos, sym, ap, ◌∙◌, ap₂, mod-lt, arith, pow_pos, w64, SFits, to_z, of_z}
+use Rattle.std.proofs.Common.{◌≡◌, ◌-◌, ◌%◌, ◌^◌, min, pos, sym, ap, ◌∙◌, ap₂, arith, w64, SFits, to_z, of_z}
 use lib.Signed.{shr_z, mag_shr}
 use Rattle.word.specs.Types.{bits}
-use Rattle.scalar.specs.Arithmetic.{shift_right}
 use Rattle.scalar.specs.Casts.{residue, cast}
-use Rattle.scalar.proofs.Casts.{bits_high, cast_range, lane_unsigned, residue-bits}
-use Rattle.scalar.proofs.Machine.{lane_shr_signed, lane_shr_unsigned, lane_shr_past}
+use Rattle.scalar.proofs.Casts.{bits_high, cast_range, residue-bits}
+use Rattle.scalar.proofs.Machine.{lane_shr_signed}
 use Rattle.scalar.proofs.lanes.shift_right.Goals as goal
 use Rattle.std.proofs.lemmas.Int.{to_z-of_z}
 
@@ -18,23 +17,9 @@ returns-then-is_signed c =
     let z = shr_z e (2 ^ k) in
     let fits : SFits w64 e = record { sfits = c.extend.type_inv } in
     let shifted : SFits w64 z = record { sfits = omega (arith, mag_shr e (2 ^ k), fits.sfits) } in
-    let count : k ≡ min c.args.count (n - 1) = c.min.ensures ∙ ap (λ b. min c.args.count (b - 1)) c.bits-bits.ensures in
+    let count : k ≡ min c.args.count (n - 1) = c.min.ensures ∙ ap (λ b. min c.args.count (b - 1)) (c.from-bits.ensures ∙ c.bits.ensures) in
     c.low.ensures.bits
     ∙ ap (λ m. m % 2 ^ n) (c.cast_unsigned.ensures ∙ ap (λ y. of_z w64 (to_z w64 (of_z w64 (shr_z y (2 ^ k))))) (to_z-of_z w64 e fits) ∙ ap (of_z w64) (to_z-of_z w64 z shifted))
     ∙ residue-bits w64 n z (bits_high t) shifted
     ∙ ap₂ (λ y j. residue n (shr_z y (2 ^ j))) (c.extend.ensures is) count
     ∙ ap (residue n) (lane_shr_signed t (cast t (pos c.args.x)) c.args.count (cast_range t (pos c.args.x) is))
-
-pub returns-then-count-bits : goal.returns-then-count-bits
-returns-then-count-bits c =
-    let t = c.args.kind in
-    let m = c.low-then-count-bits.result in
-    let few : c.args.count < bits t = omega (arith, c.bits-bits.ensures) in
-    let small : m < 2 ^ bits t = omega (arith, c.low-then-count-bits.ensures.bits, mod-lt c.args.x (pow_pos (bits t))) in
-    lane_shr_unsigned t m c.args.count small few ∙ ap (λ z. residue (bits t) (shift_right (bits t) z c.args.count)) (c.low-then-count-bits.ensures.unsigned (sym c.if-is_signed.ensures))
-
-pub returns-else-count-bits : goal.returns-else-count-bits
-returns-else-count-bits c =
-    let t = c.args.kind in
-    let many : bits t ≤ c.args.count = omega (arith, c.bits-bits.ensures) in
-    lane_shr_past t (c.args.x % 2 ^ bits t) c.args.count many ∙ ap (λ z. residue (bits t) (shift_right (bits t) z c.args.count)) (sym (lane_unsigned t c.args.x (sym c.if-is_signed.ensures)))

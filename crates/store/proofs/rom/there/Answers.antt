@@ -1,12 +1,11 @@
-use Rattle.std.proofs.Common.{◌≡◌, ◌-◌, ◌*◌, min, length, take, drop, ap, ◌∙◌, arith, length-drop, length-take}
-use Rattle.store.proofs.Lines.{cut_line}
+use Rattle.std.proofs.Common.{◌≡◌, ◌*◌, ◌≤◌, min, length, take, drop, arith, length-take}
+use Rattle.std.proofs.lemmas.List.{take_min, take_rest}
 use Rattle.store.proofs.rom.there.Goals as goal
 
 pub returns : goal.returns
 returns c =
-    let n = c.args.line in
-    let bytes = c.args.bytes.now in
-    let end = c.min-end.result in
-    let at : n * 128 ≡ 128 * n = omega arith in
-    let t : end - n * 128 ≡ min (length (drop (128 * n) bytes)) 128 = simp length-drop (omega arith) in
-    (ap (λ k. take (end - n * 128) (drop k bytes)) at ∙ cut_line (drop (128 * n) bytes) (end - n * 128) t, simp length-take (omega arith))
+    let rest = drop (128 * c.args.line) c.args.bytes.now in
+    let least = simp take_rest at c.min.ensures in
+    let e : c.min.result ≡ min 128 (length rest) = omega arith in
+    let short : length (take 128 rest) ≤ 128 = simp length-take (omega arith) in
+    rw (e, take_rest, take_min) (λ i. take 128 rest, short)

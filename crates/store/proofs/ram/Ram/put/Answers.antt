@@ -5,8 +5,7 @@ use Rattle.store.proofs.ram.Ram.put.Goals as goal
 pub returns : goal.returns
 returns c =
     let n = c.args.line in
-    let old = c.args.self.now.bytes.now in
-    let new = c.args.new.now in
-    let full : length new ≡ 128 = omega arith in
-    let e = ram_write old new n (n * 128) (n * 128 + 128 - n * 128) (omega arith) (omega arith) full c.requires c.args.self.now.bytes.ghost_name in
-    rw c.copy_from_slice.ensures.after e
+    let old = c.args.self.now.bytes in
+    let full : length c.args.new.now ≡ 128 = omega arith in
+    let written = ram_write old.now c.args.new.now n (128 * n + 128 - 128 * n) (omega arith) full c.requires old.ghost_name in
+    rw c.copy_from_slice.ensures.after written
