@@ -12,7 +12,8 @@ fn try_file(rt: &HostRuntime, path: &str) -> io::Result<()> {
     let mut memory = vec![in rt.alloc(); 0; RAM_BYTES]?;
     let mut ram = Ram::new(&mut memory);
     match load_file(rt, path, &mut ram) {
-        // as any other want of memory does
+        // ends the program as any other want of memory does; three lines, and a function for both
+        // programs would need a contract of its own
         Err(FileFault::OutOfMemory) => return Err(ErrorKind::OutOfMemory.into()),
         outcome => println!(rt; "{path}\n{}", OutcomeText(outcome))?,
     }

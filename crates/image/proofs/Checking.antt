@@ -21,10 +21,6 @@ pub record Unchecked (m : Meaning) (image : List ℕ) (at : ℕ) : Type 0 where
   pub fit : AllFit m left → AllFit m all
   pub misfit : (x n : ℕ) → FirstMisfit m left x n → FirstMisfit m all x n
 
-pub unchecked_all : (m : Meaning) (image : List ℕ) (ps : List Placed) → Image 0 image ps → Unchecked m image 0
-unchecked_all m image ps w =
-    record { all = ps; left = ps; whole = w; rest = w; fit = λ h. h; misfit = λ x n h. h }
-
 module _ (m : Meaning) (image : List ℕ) (at : ℕ) (u : Unchecked m image at) where
   module _ (a : ℕ) (b : List ℕ) (f : front (drop at image) ≡ places a b) where
     here : Placed

@@ -14,9 +14,6 @@ pub record Walked (image : List ℕ) (at : ℕ) : Type 0 where
   pub malformed : (x : ℕ) (r : Refusal) → Malformed at (drop at image) x r → Malformed 0 image x r
   pub whole : (ps : List Placed) → Image at (drop at image) ps → (qs : List Placed) × Image 0 image qs
 
-pub walked_none : (image : List ℕ) → Walked image 0
-walked_none image = record { malformed = λ x r w. w; whole = λ ps w. (ps, w) }
-
 pub walked_more : (image : List ℕ) (at a : ℕ) (b : List ℕ) → front (drop at image) ≡ places a b → Walked image at → Walked image (at + taken b)
 walked_more image at a b f w =
     let on = drop-drop (taken b) at image in

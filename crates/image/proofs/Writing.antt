@@ -1,5 +1,5 @@
 -- Writing the places of an image one after the other.
-use Rattle.std.proofs.Common.{◌≡◌, ℕ, ◌+◌, List, [], ◌∷◌, drop, Some, None, Ok, Err, Option, Result, rules, sym, refl, ap, ◌∙◌, subst}
+use Rattle.std.proofs.Common.{◌≡◌, ℕ, ◌+◌, List, [], ◌∷◌, drop, Some, None, Ok, Err, Option, Result, rules, sym, ap, ◌∙◌, subst}
 use Rattle.std.proofs.lemmas.List.{drop-drop}
 use Rattle.store.specs.Meaning.{Meaning}
 use Rattle.std.specs.Result.{IsOk}
@@ -19,9 +19,6 @@ pub record Unwritten (was : Meaning) (image : List ℕ) (at : ℕ) (is : Meaning
   pub rest : Image at (drop at image) left
   pub fit : AllFit is left
   pub same : put_all is left ≡ put_all was all
-
-pub unwritten_all : (m : Meaning) (image : List ℕ) (ps : List Placed) → Good m image ps → Unwritten m image 0 m
-unwritten_all m image ps w = record { all = ps; left = ps; good = w; rest = w.0; fit = w.1; same = refl }
 
 -- Writing bytes does not change which lines can be written.
 fit_put : (m : Meaning) (a : ℕ) (b : List ℕ) (ps : List Placed) → AllFit m ps → AllFit (put m a b) ps

@@ -28,6 +28,7 @@ fn put_line<S: Store>(store: &mut S, line: u32, place: Place<'_>)
     requires { (S.meaning store.old).canwrite line ≡ true }
     ensures { let old = S.meaning store.old in S.meaning store.new ≡ with_line old line (spliced (128 * line) (old.line line) place.entry.address place.entry.bytes.now) }
 {
+    // a line record for `read` to fill
     let mut bytes = [0; 128];
     store.read(line, &mut bytes).unwrap();
     splice(&mut bytes, 128 * line as usize, place);

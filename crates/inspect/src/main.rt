@@ -22,7 +22,8 @@ fn main(rt: HostRuntime) -> io::Result<()> {
     let mut memory = vec![in rt.alloc(); 0; RAM_BYTES]?;
     let mut ram = Ram::new(&mut memory);
     match load_file(&rt, "bench.img", &mut ram) {
-        // as any other want of memory does
+        // ends the program as any other want of memory does; three lines, and a function for both
+        // programs would need a contract of its own
         Err(FileFault::OutOfMemory) => return Err(ErrorKind::OutOfMemory.into()),
         outcome => println!(rt; "{}", OutcomeText(outcome))?,
     }

@@ -7,8 +7,8 @@ use crate::kinds::by_kind;
 use scalar::dividing::{divide_lanes, is_zero_lane};
 use word::ElementType;
 
-#[tactic(auto, using(crate::proofs::Joins::places))]
 // It goes over all elements, and not by `any`: a loop that may end early takes no vector instructions.
+#[tactic(auto, using(crate::proofs::Joins::places))]
 #[inline(always)]
 fn has_zero_as(kind: ElementType, line: &[u8; 128]) -> bool
     ensures { result ≡ any_zero kind line.now }

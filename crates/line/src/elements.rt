@@ -1,6 +1,7 @@
 // Reading and writing an element. A line is bytes, and its elements no values of their own, so loops go
 // over the numbers of elements, by `for`: `fold` speaks of closures that act as a function at every
-// number, and past the last element nothing is known of these.
+// number, and past the last element nothing is known of these; and the pieces of `chunks_exact` are
+// slices, out of which a lane has to be read as it is out of the line.
 ghost use Rattle.std.specs.Prelude.{◌≡◌, ◌+◌, ◌*◌, ◌<◌, ◌≤◌, true, pos, ◌==◌};
 ghost use Rattle.word.specs.Types.{width};
 ghost use Rattle.line.specs.Elements.{number, bytes, splice, zero_line};

@@ -71,7 +71,8 @@ pub fn fill(kind: ElementType, z: i128, out: &mut [u8; 128])
     by_kind!(kind, fill_as; z, out)
 }
 
-// A loop of its own: for that of `apply_as`, a line would be filled with the address and read again.
+// A loop of its own: for that of `apply_as`, a line would be filled with the address and read again, and
+// no line is copied where a value does.
 #[inline(always)]
 fn add_address_as(kind: ElementType, address: u32, y: &[u8; 128], out: &mut [u8; 128])
     ensures { out.new ≡ vector_addr kind address y.now }

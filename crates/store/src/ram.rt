@@ -28,8 +28,8 @@ impl<'a> Ram<'a> {
         std::mem::replace(self, Ram { bytes: &mut [] })
     }
 
-    // Replaces the bytes of a line that is there. Lines are slices, in reads too: std says nothing of
-    // what a slice holds once it was written through `as_chunks_mut`.
+    // Replaces the bytes of a line that is there. Lines are slices at their places, here and where they
+    // are read: std says nothing of what a slice holds once it was written through `as_chunks_mut`.
     fn put(&mut self, line: u32, new: &[u8; 128])
         requires { line < whole_lines self.old.bytes.now }
         ensures { ram self.new.bytes.ghost_name self.new.bytes.now ≡ with_line (ram self.old.bytes.ghost_name self.old.bytes.now) line new.now }

@@ -25,6 +25,7 @@ pub struct Run {
 fn line_at<S: Store>(store: &S, number: u32) -> Option<Line>
     ensures { LineAt (S.meaning store.now) number result }
 {
+    // a line record for `read` to fill
     let mut bytes = [0; 128];
     store.read(number, &mut bytes).ok()?;
     Some(Line {

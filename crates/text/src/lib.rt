@@ -16,7 +16,8 @@ fn digit(n: u32, k: u32) -> u8
     if d < 10 { b'0' + d } else { b'A' + (d - 10) }
 }
 
-// The number in 8 capital hexadecimal digits, the most significant first, by contract.
+// The number in 8 capital hexadecimal digits, the most significant first. (For callers that want bytes;
+// text is written by the language's own format.)
 pub fn hex8(n: u32) -> [u8; 8]
     ensures { result ≡ hex8 n }
 {

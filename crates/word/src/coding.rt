@@ -42,7 +42,7 @@ fn fetch(a: u8, b: u8, i: i16, j: u8) -> Result<u32, Refusal>
         return Err(Refusal::NoWord);
     }
     let fields = A.write(a)? + B.write(b)? + SHORT_I.write_signed(i)? + J.write(j)?;
-    Ok(GROUP.write(FETCH)? + fields + SHORT_OPCODE.write(1)?)
+    Ok(GROUP.write(FETCH)? + fields + SHORT_OPCODE.write(FETCH_OPCODE)?)
 }
 
 // a6 b6 w5 z7 o4, in group 6, where b is not 0.

@@ -16,12 +16,12 @@ fn arithmetic(word: u32) -> Option<Operation>
     let (a, b, c, d) = (A.read(word), B.read(word), C.read(word), SHORT_D.read(word));
     let form = V.named(word)?;
     match OPCODE.read(word) {
-        o if o == DIV + u8::from(form) => Some(Operation::Div { form, a, b, c, d }),
-        _ if d != 0 => None,
-        _ => {
+        0..=11 if d == 0 => {
             let op = OPCODE.named(word)?;
             Some(Operation::Arith { op, form, a, b, c })
         }
+        o if o == DIV + u8::from(form) => Some(Operation::Div { form, a, b, c, d }),
+        _ => None,
     }
 }
 
@@ -33,7 +33,7 @@ fn fetch(word: u32) -> Option<Operation>
     let (a, b, j) = (A.read(word), B.read(word), J.read(word));
     let i = SHORT_I.read_signed(word);
     match SHORT_OPCODE.read(word) {
-        1 if a + j <= LAST_FETCHED => Some(Operation::Fetch { a, b, i, j }),
+        FETCH_OPCODE if a + j <= LAST_FETCHED => Some(Operation::Fetch { a, b, i, j }),
         _ => None,
     }
 }
@@ -44,10 +44,8 @@ fn jump(word: u32) -> Option<Operation>
     ensures { Decodes word result }
 {
     let (a, b, w) = (A.read(word), B.read(word), W.read(word));
-    if b == 0 || !Z7.is_zero(word) {
-        return None;
-    }
     match OPCODE.read(word) {
+        _ if b == 0 || !Z7.is_zero(word) => None,
         JUMP_NOT_ZERO => Some(Operation::JumpNotZero { a, b, w }),
         JUMP_ZERO => Some(Operation::JumpZero { a, b, w }),
         HAND if a == 0 => Some(Operation::Hand { b, w }),
@@ -65,7 +63,7 @@ fn system(word: u32) -> Option<Operation>
         (SWI, ..) => Some(Operation::Swi { a, b, c, d }),
         (RETI, 0, 0, 0, 0) => Some(Operation::Reti),
         (RETX, 0, 0, 0, 0) => Some(Operation::Retx),
-        (o, _, 0, 0, 0) => {
+        (o @ 0..=11, _, 0, 0, 0) => {
             let register = Special::try_from(o / 2).ok()?;
             Some(match o % 2 {
                 0 => Operation::CopyOut { from: register, a },
@@ -83,27 +81,27 @@ pub fn decode(word: u32) -> Option<Operation>
     let (a, b) = (A.read(word), B.read(word));
     // Load and store, and reduce and dup, differ in the case alone: one function for two arms would take
     // a closure that makes the case.
-    match GROUP.read(word) {
-        ARITHMETIC => arithmetic(word),
-        REDUCE if Z12.is_zero(word) => {
+    match (GROUP.read(word), OPCODE.read(word)) {
+        (ARITHMETIC, _) => arithmetic(word),
+        (REDUCE, 0..=4) if Z12.is_zero(word) => {
             let op = OPCODE.named(word)?;
             Some(Operation::Reduce { op, a, b })
         }
-        LOAD => {
+        (LOAD, 0..=7) => {
             let (kind, i) = (OPCODE.named(word)?, I.read_signed(word));
             Some(Operation::Load { kind, a, b, i })
         }
-        STORE => {
+        (STORE, 0..=7) => {
             let (kind, i) = (OPCODE.named(word)?, I.read_signed(word));
             Some(Operation::Store { kind, a, b, i })
         }
-        DUP if Z12.is_zero(word) => {
+        (DUP, 0..=7) if Z12.is_zero(word) => {
             let kind = OPCODE.named(word)?;
             Some(Operation::Dup { kind, a, b })
         }
-        FETCH => fetch(word),
-        JUMP => jump(word),
-        SYSTEM => system(word),
+        (FETCH, _) => fetch(word),
+        (JUMP, _) => jump(word),
+        (SYSTEM, _) => system(word),
         _ => None,
     }
 }

@@ -41,6 +41,9 @@ pub(crate) const RETI: u8 = 13;
 
 pub(crate) const RETX: u8 = 14;
 
+// The opcode of group 5, in one bit.
+pub(crate) const FETCH_OPCODE: u8 = 1;
+
 // A fetch ends at this register or before it.
 pub(crate) const LAST_FETCHED: u8 = 62;
 

@@ -9,6 +9,7 @@ use std::fmt;
 #[derive(Clone, Copy, PartialEq, Eq, Debug)]
 pub struct UnknownNumber(pub u8);
 
+// Written out, since its text is promised.
 impl fmt::Display for UnknownNumber {
     ghost output = { λ e. Some (unknown_text e) };
 
