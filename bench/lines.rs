@@ -85,7 +85,7 @@ fn each<T: Element>(x: &Line, y: &Line, out: &mut Line, f: impl Fn(T, T) -> T) {
 }
 
 fn divide<T: Element>(x: &Line, y: &Line, out: &mut Line, rest: &mut Line) {
-    if y.chunks_exact(T::WIDTH).any(|y| T::load(y).is_zero()) {
+    if y.chunks_exact(T::WIDTH).fold(false, |zero, y| zero | T::load(y).is_zero()) {
         return;
     }
     for k in 0..128 / T::WIDTH {

@@ -45,21 +45,22 @@ fn signed_lane(kind: ElementType, is_negative: bool, size: u64) -> u64
     }
 }
 
-// The quotient and the remainder of sizes. Over zero they are zero and x.
+// The quotient and the remainder of sizes. Over zero they are zero and x. (A remainder by `%` is slower
+// in a loop over narrow elements.)
 fn divide_sizes(x: u64, y: u64) -> Division<u64>
     ensures quotient { result.quotient ≡ x / y }
     ensures remainder { result.remainder ≡ x % y }
 {
     if y == 0 {
-        Division {
+        return Division {
             quotient: 0,
             remainder: x,
-        }
-    } else {
-        Division {
-            quotient: x / y,
-            remainder: x % y,
-        }
+        };
+    }
+    let quotient = x / y;
+    Division {
+        quotient,
+        remainder: x - quotient * y,
     }
 }
 
