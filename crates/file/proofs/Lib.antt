@@ -1,0 +1,9 @@
+pub mod DataSide
+pub mod InstructionSide
+pub mod Flushing
+pub mod Tags
+pub mod Starting
+pub mod Writing
+pub mod Sending
+pub mod Taking
+pub mod Ending

@@ -1,0 +1,7 @@
+use Rattle.file.specs.Instructions.{stands}
+use Rattle.file.proofs.Taking.{took}
+use Rattle.file.proofs.instructions.InstructionRegisters.go.Goals as goal
+
+pub returns : goal.returns
+unfolding stands
+returns g c = took _ _ _ _ _ c.args.register.inside c.sound.ensures c.go.ensures

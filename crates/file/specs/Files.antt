@@ -1,0 +1,20 @@
+-- What a file stands for on a store: the one definition by which the engine is held to the flat machine.
+use Rattle.std.specs.Prelude.{◌≡◌, true, Ok, Err, Result}
+use Rattle.std.specs.Borrow.{Bor}
+use Rattle.refusal.specs.declared.Refusal.{Refusal}
+use Rattle.refusal.specs.declared.Refusal.TheVariants.{Cold as ColdRefusal}
+use Rattle.store.specs.Meaning.{Meaning}
+use Rattle.flat.specs.Calls.{Flat, cold}
+use Rattle.file.specs.Machine.{stands as machine_stands}
+use Rattle.file.specs.declared.file.File.{File}
+use Rattle.file.specs.declared.machine.Machine.{Machine}
+use Rattle.file.specs.declared.file.File.TheVariants.{Cold, Warm}
+
+unfoldable pub stands : File → Meaning → Flat
+stands Cold m = cold m
+stands (Warm f) m = record { warm = true; machine = machine_stands f m }
+
+-- The machine of a warm file, or the refusal of a cold one.
+abbrev pub IsWarm : File → Result (Bor Machine) Refusal → Type 0
+IsWarm file (Ok machine) = file ≡ Warm machine.now
+IsWarm file (Err why) = (file ≡ Cold) × (why ≡ ColdRefusal)

@@ -1,0 +1,7 @@
+pub mod Standing
+pub mod Types
+pub mod Data
+pub mod Backing
+pub mod Instructions
+pub mod Machine
+pub mod Files

@@ -1,0 +1,32 @@
+-- What registers with tags stand for: the flat machine's registers and memory.
+use Rattle.std.specs.Prelude.{◌≡◌, ◌≢◌, ℕ, Bool, false, if◌then◌else◌, List, Some, None, Option}
+use Rattle.word.specs.declared.element.ElementType.{ElementType}
+
+use Rattle.store.specs.Meaning.{Meaning}
+use Rattle.flat.specs.Data.{Data, given}
+use Rattle.flat.specs.Instructions.{Instruction}
+use Rattle.flat.specs.Registers.{zeros, is_real, line_of}
+use Rattle.tags.specs.Names.{Names}
+
+-- What a line's tag has, or else something other.
+abbrev pub of_tag : {X : Type 0} → Option ℕ → (ℕ → X) → X → X
+of_tag None f other = other
+of_tag (Some t) f other = f t
+
+-- Memory is the tags' bytes over the store's lines; the touched lines are those of marked tags; the backing copy is the store.
+unfoldable pub data_of : Names → (ℕ → ElementType) → (ℕ → Bool) → Meaning → Data
+data_of s kinds marked m =
+    record {
+      registers = λ r. record { address = s.address r; kind = kinds r };
+      memory = λ n. of_tag (s.tag n) s.bytes (given m n);
+      touched = λ n. of_tag (s.tag n) marked false;
+      backing = m;
+    }
+
+-- An instruction register's words are those of its line's tag.
+unfoldable pub instructions_of : Names → ℕ → Instruction
+instructions_of s r = record { address = s.address r; words = if is_real r then of_tag (s.tag (line_of (s.address r))) s.bytes zeros else zeros }
+
+-- Marks are of tags in use: a tag that names no line is not marked.
+abbrev pub Quiet : Names → (ℕ → Bool) → Type 0
+Quiet s marked = (t : ℕ) → ((n : ℕ) → s.tag n ≢ Some t) → marked t ≡ false

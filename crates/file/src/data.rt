@@ -1,0 +1,185 @@
+// The data registers: a bank of them with their types, and a mark on each tag whose line was written.
+ghost use Rattle.std.specs.Prelude.{◌≡◌, length};
+ghost use Rattle.file.specs.Types.{all_u8};
+ghost use Rattle.store.specs.Meaning.{Meaning};
+ghost use Rattle.marks.specs.Marks.{marked};
+ghost use Rattle.tags.specs.Meaning.{names};
+ghost use Rattle.file.specs.Standing.{Quiet};
+
+use crate::backing::{Backing, give, send, zeros};
+use flat::DataRegister;
+use marks::Marks;
+use store::Store;
+use tags::{Bank, Change, Register, Tag};
+use word::ElementType;
+
+#[derive(Drop)]
+pub struct DataRegisters {
+    bank: Bank,
+    kinds: [ElementType; 128],
+    marks: Marks,
+    ghost quiet: { Quiet (names bank) (marked marks) },
+    ghost typed: { length kinds ≡ 128 },
+}
+
+impl DataRegisters {
+    ghost use Rattle.std.specs.Prelude.{◌&&◌, true, false, ◌/◌, Some, option_map, get_or};
+    ghost use Rattle.flat.specs.Calls.{started_data, touched_lines};
+    ghost use Rattle.flat.specs.Data.{leaves, move, sent, sent_back, shown, write, flushed};
+    ghost use Rattle.flat.specs.Registers.{is_zero};
+    ghost use Rattle.marks.specs.Marks.{with_mark};
+    ghost use Rattle.tags.specs.Names.{tag_of};
+    ghost use Rattle.file.specs.Data.{IsTouched, leaves_line, sends, stands};
+
+    // Every register at address 0, with the type u8, on the store's line 0.
+    pub fn new<S: Store>(store: &S) -> DataRegisters
+        ensures { stands result (S.meaning store.now) ≡ started_data (S.meaning store.now) }
+    {
+        let mut line = zeros();
+        give(store, 0, &mut line);
+        DataRegisters {
+            bank: Bank::new(&line),
+            kinds: all_u8(),
+            marks: Marks::new(),
+        }
+    }
+
+    // A register's address and type.
+    #[tactic(auto, unfolding(crate::specs::Data::stands, crate::specs::Standing::data_of))]
+    pub fn register(&self, register: Register) -> DataRegister
+        ensures { (m : Meaning) → result ≡ (stands self.now m).registers register.number }
+    {
+        DataRegister {
+            address: self.bank.address(register),
+            kind: self.kinds[usize::from(register.number())],
+        }
+    }
+
+    // The bytes that a register shows.
+    pub fn bytes(&self, register: Register) -> &[u8; 128]
+        ensures { (m : Meaning) → result.now ≡ shown (stands self.now m) register.number }
+    {
+        self.bank.sound();
+        self.bank.bytes(self.tag(register))
+    }
+
+    // The bytes of a line of memory: those of the tag that names it, or else the store's.
+    #[tactic(auto, unfolding(crate::specs::Data::stands, crate::specs::Standing::data_of))]
+    pub fn read<S: Store>(&self, line: u32, store: &S, out: &mut [u8; 128])
+        ensures { out.new ≡ (stands self.now (S.meaning store.now)).memory line }
+    {
+        match self.bank.search(line) {
+            Some(tag) => *out = *self.bank.bytes(tag),
+            None => give(store, line, out),
+        }
+    }
+
+    // The tag of a register's line, and tag 0 for a zero register.
+    #[tactic(auto, using(crate::proofs::Tags::carries))]
+    fn tag(&self, register: Register) -> Tag
+        ensures { result.number ≡ tag_of (names self.now.bank) register.number }
+    {
+        self.bank.tag(register)
+    }
+
+
+    // Changes the bytes of a register's line where they lie.
+    #[tactic(auto, unfolding(crate::specs::Data::stands))]
+    pub fn write<C: Change>(&mut self, register: Register, change: &C)
+        ensures { stands self.new ≡ (λ m. write register.number (C.changed change.now (shown (stands self.old m) register.number)) (stands self.old m)) }
+    {
+        if register.is_zero() {
+            return;
+        }
+        self.bank.sound();
+        let tag = self.tag(register);
+        self.bank.change(register, change);
+        self.marks.insert(tag.number());
+    }
+
+    // Sends back the line that a tag names, and takes the tag's mark away.
+    fn send_back<S: Store>(&mut self, tag: Tag, line: u32, store: &mut S)
+        requires { (names self.old.bank).tag line ≡ Some tag.number }
+        ensures data { stands self.new (S.meaning store.new) ≡ sent_back line (stands self.old (S.meaning store.old)) }
+        ensures bank { self.new.bank ≡ self.old.bank }
+        ensures kinds { self.new.kinds ≡ self.old.kinds }
+        ensures marks { marked self.new.marks ≡ with_mark (marked self.old.marks) tag.number false }
+    {
+        self.bank.sound();
+        send(store, line, self.bank.bytes(tag));
+        self.marks.remove(tag.number());
+    }
+
+    // Whether a register is its line's last, goes to another, and the line is touched.
+    fn sends(&self, register: Register, address: u32) -> bool
+        ensures { result ≡ (leaves_line (names self.now.bank) register.number address && marked self.now.marks (tag_of (names self.now.bank) register.number)) }
+    {
+        let leaves = self.bank.is_last(register) && self.bank.address(register) / 128 != address / 128;
+        leaves && self.marks.contains(self.tag(register).number())
+    }
+
+    // Where a register is its line's last and goes to another, the line is sent back if it is touched, and
+    // answered. (What the register's tag names is not changed by this.)
+    fn leave<S: Store>(&mut self, register: Register, address: u32, store: &mut S) -> Option<u32>
+        requires { is_zero register.number ≡ false }
+        ensures data { stands self.new (S.meaning store.new) ≡ sends register.number address (stands self.old (S.meaning store.old)) }
+        ensures sent { result ≡ sent register.number address (stands self.old (S.meaning store.old)) }
+        ensures bank { self.new.bank ≡ self.old.bank }
+        ensures kinds { self.new.kinds ≡ self.old.kinds }
+        ensures clean { leaves register.number address (stands self.old (S.meaning store.old)) ≡ true → marked self.new.marks (tag_of (names self.old.bank) register.number) ≡ false }
+    {
+        self.bank.sound();
+        if !self.sends(register, address) {
+            return None;
+        }
+        let line = self.bank.address(register) / 128;
+        let tag = self.tag(register);
+        self.send_back(tag, line, store);
+        Some(line)
+    }
+
+    // Moves a register to an address and a type, and answers the line that was sent back, if any.
+    pub fn go<S: Store>(&mut self, register: Register, to: DataRegister, store: &mut S) -> Option<u32>
+        ensures data { stands self.new (S.meaning store.new) ≡ move register.number to (stands self.old (S.meaning store.old)) }
+        ensures sent { result ≡ sent register.number to.address (stands self.old (S.meaning store.old)) }
+    {
+        if register.is_zero() {
+            return None;
+        }
+        let sent = self.leave(register, to.address, store);
+        self.bank.sound();
+        self.bank.go(register, to.address, &Backing { store });
+        self.kinds[usize::from(register.number())] = to.kind;
+        sent
+    }
+
+    // A touched line and its tag, if there is one.
+    fn touched(&self) -> Option<(Tag, u32)>
+        ensures { IsTouched (names self.now.bank) (marked self.now.marks) result }
+    {
+        let tag = Tag::of(self.marks.first()?);
+        let line = self.bank.line(tag).unwrap();
+        Some((tag, line))
+    }
+
+    // Sends back every touched line, and answers how many they were.
+    pub fn flush<S: Store>(&mut self, store: &mut S) -> u32
+        ensures data { stands self.new (S.meaning store.new) ≡ flushed (stands self.old (S.meaning store.old)) }
+        ensures count { result ≡ touched_lines (stands self.old (S.meaning store.old)) }
+    {
+        self.bank.sound();
+        let count = self.marks.count();
+        while let Some((tag, line)) = self.touched() {
+            self.send_back(tag, line, store);
+        }
+        count
+    }
+}
+
+// The type u8 for each register. (By itself, so that no other goal has a list of 128 types in it.)
+#[tactic(auto, unfolding(crate::specs::Types::all_u8))]
+fn all_u8() -> [ElementType; 128]
+    ensures { result ≡ all_u8 }
+{
+    [ElementType::U8; 128]
+}

@@ -1,0 +1,91 @@
+-- The data registers, the memory that they name lines of, and the backing copy.
+use Rattle.std.specs.Prelude.{ℕ, ◌/◌, ◌%◌, Bool, true, false, if◌then◌else◌, not, ◌&&◌, List, Some, None, Option, ◌==◌, nat_lt, ℤ}
+use Rattle.word.specs.Types.{width}
+use Rattle.line.specs.Elements.{element, put}
+use Rattle.store.specs.Meaning.{Meaning, with_line}
+use Rattle.flat.specs.Registers.{zeros, is_zero, line_of, shared, at}
+use Rattle.flat.specs.declared.registers.DataRegister.{DataRegister}
+
+-- Each data register has an address and a type. Memory has the bytes of each line; the backing copy is what the store holds; a line that was written since it last went to the backing copy is touched.
+pub record Data : Type 0 where
+  pub registers : ℕ → DataRegister
+  pub memory : ℕ → List ℕ
+  pub touched : ℕ → Bool
+  pub backing : Meaning
+
+-- What the backing copy gives of a line. A line past its size reads as zeros.
+unfoldable pub given : Meaning → ℕ → List ℕ
+given m n = if nat_lt n m.size then m.line n else zeros
+
+-- The backing copy once it was sent a line. A line that it will not take is lost.
+unfoldable pub taken : Meaning → ℕ → List ℕ → Meaning
+taken m n bytes = if m.canwrite n then with_line m n bytes else m
+
+-- The addresses of the data registers, and the line that one names.
+abbrev pub addresses : Data → ℕ → ℕ
+addresses d r = (d.registers r).address
+
+abbrev pub line : Data → ℕ → ℕ
+line d r = line_of (addresses d r)
+
+-- A register shows the bytes of its line in memory, and a zero register zeros.
+abbrev pub shown : Data → ℕ → List ℕ
+shown d r = if is_zero r then zeros else d.memory (line d r)
+
+-- The number of a register's element in its line: offset div width.
+abbrev pub place : DataRegister → ℕ
+place r = r.address % 128 / width r.kind
+
+-- The element that a register shows, by its type.
+abbrev pub shown_element : Data → ℕ → ℤ
+shown_element d r = element (d.registers r).kind (shown d r) (place (d.registers r))
+
+-- A line that is written is touched.
+abbrev pub written : ℕ → List ℕ → Data → Data
+written n bytes d = record { registers = d.registers; memory = at d.memory n bytes; touched = at d.touched n true; backing = d.backing }
+
+-- Writing a register's line. With a zero register nothing is written.
+unfoldable pub write : ℕ → List ℕ → Data → Data
+write r bytes d = if is_zero r then d else written (line d r) bytes d
+
+-- Writing a number, cast, to a register's element.
+unfoldable pub write_element : ℕ → ℤ → Data → Data
+write_element r z d = write r (put (width (d.registers r).kind) (shown d r) (place (d.registers r)) z) d
+
+-- A line goes to the backing copy, and its mark is cleared.
+unfoldable pub sent_back : ℕ → Data → Data
+sent_back n d = record { registers = d.registers; memory = d.memory; touched = at d.touched n false; backing = taken d.backing n (d.memory n) }
+
+-- Of a line that no data register names, memory holds what the backing copy gives. (That is what memory held before, but where the backing copy would not take a touched line, or is another than the line came from.)
+unfoldable pub let_go : ℕ → Data → Data
+let_go n d = record { registers = d.registers; memory = at d.memory n (given d.backing n); touched = d.touched; backing = d.backing }
+
+-- The last data register leaves the line n: a touched line goes to the backing copy.
+unfoldable pub left : ℕ → Data → Data
+left n d = let_go n (if d.touched n then sent_back n d else d)
+
+-- Register r is its line's last, and leaves it for the line of an address.
+abbrev pub leaves : ℕ → ℕ → Data → Bool
+leaves r address d = not (is_zero r) && not (line d r == line_of address) && not (shared (addresses d) r)
+
+-- Register r gets an address and a type.
+abbrev pub placed : ℕ → DataRegister → Data → Data
+placed r to d = record { registers = at d.registers r to; memory = d.memory; touched = d.touched; backing = d.backing }
+
+-- Register r moves to an address and a type; if it is its line's last and goes to another, it leaves the line. A zero register never changes.
+unfoldable pub move : ℕ → DataRegister → Data → Data
+move r to d = if is_zero r then d else placed r to (if leaves r to.address d then left (line d r) d else d)
+
+-- The line that a move sends to the backing copy, if any.
+unfoldable pub sent : ℕ → ℕ → Data → Option ℕ
+sent r address d = if leaves r address d && d.touched (line d r) then Some (line d r) else None
+
+-- Every touched line goes to the backing copy, and its mark is cleared.
+unfoldable pub flushed : Data → Data
+flushed d =
+    record {
+      registers = d.registers;
+      memory = d.memory;
+      touched = λ n. false;
+      backing = record { size = d.backing.size; line = λ n. if d.touched n && d.backing.canwrite n then d.memory n else d.backing.line n; canwrite = d.backing.canwrite; kept = d.backing.kept };
+    }

@@ -1,0 +1,51 @@
+-- One step.
+use Rattle.std.specs.Prelude.{ℕ, Bool, true, false, if◌then◌else◌, ◌&&◌, Some, None, Option}
+use Rattle.reading.specs.Reading.{operation}
+use Rattle.word.specs.declared.operations.Operation.{Operation}
+use Rattle.word.specs.declared.operations.Operation.TheVariants.{Swi}
+use Rattle.flat.specs.Machine.{Machine, word, entered}
+use Rattle.flat.specs.Operations.{carried_out, sent_by}
+use Rattle.flat.specs.Raising.{raised}
+use Rattle.flat.specs.declared.control.Mode.{Mode}
+use Rattle.flat.specs.declared.control.Mode.TheVariants.{User, Supervisor}
+use Rattle.flat.specs.declared.exception.Exception.{Exception}
+use Rattle.flat.specs.declared.exception.Exception.TheVariants.{Interrupt, Undefined, Software}
+use Rattle.flat.specs.declared.exception.Stepped.{Stepped}
+use Rattle.flat.specs.declared.exception.Stepped.TheVariants.{Done, Entered}
+
+-- What a step leaves, what it answers, and the line that it sends to the backing copy, if any.
+pub record AfterStep : Type 0 where
+  pub machine : Machine
+  pub answer : Stepped
+  pub sent : Option ℕ
+
+-- The machine enters an exception, and does nothing more.
+abbrev pub enters : Exception → Machine → AfterStep
+enters x m = record { machine = entered x m; answer = Entered x; sent = None }
+
+-- An operation that raises no exception is carried out; swi then enters its exception.
+unfoldable pub does : Operation → Machine → AfterStep
+does (Swi a b c d) m = enters Software (carried_out (Swi a b c d) m)
+does op m = record { machine = carried_out op m; answer = Done; sent = sent_by op m }
+
+-- The first exception that applies, or the operation.
+unfoldable pub obeyed_unless : Option Exception → Operation → Machine → AfterStep
+obeyed_unless (Some x) op m = enters x m
+obeyed_unless None op m = does op m
+
+-- A word that was read: an undefined word enters its exception, an operation the first that applies.
+unfoldable pub obeyed : Option Operation → Machine → AfterStep
+obeyed None m = enters Undefined m
+obeyed (Some op) m = obeyed_unless (raised m op) op m
+
+-- In user mode with ie set and the pin up the interrupt comes before anything else.
+abbrev pub is_user : Mode → Bool
+is_user User = true
+is_user Supervisor = false
+
+abbrev pub interrupted : Machine → Bool
+interrupted m = is_user m.control.mode && m.control.ie && m.control.pin
+
+-- A step: the interrupt, or else the word at ipc.
+unfoldable pub step : Machine → AfterStep
+step m = if interrupted m then enters Interrupt m else obeyed (operation (word m)) m

@@ -1,0 +1,17 @@
+// The flat machine: what the engine is proved to be. Its definitions stand in specs/, from `Registers` up
+// to `Calls`; they are what a reader must believe. The code here is only the words that they and the
+// engine share: modes, exceptions, what a step answers, what is recorded and shown. It uses the
+// refusals, words, arithmetic, lines, and what stores mean.
+#![tactic(auto)]
+
+mod control;
+mod exception;
+mod records;
+mod registers;
+mod shown;
+
+pub use control::{Control, Mode};
+pub use exception::{Exception, Stepped};
+pub use records::StepRecord;
+pub use registers::DataRegister;
+pub use shown::{ShownData, ShownInstruction};

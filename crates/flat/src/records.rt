@@ -1,0 +1,12 @@
+// What a trace records of a step.
+use crate::control::Mode;
+use crate::exception::Stepped;
+
+// Mode, address and word are those before the step.
+#[derive(Clone, Copy, PartialEq, Eq, Debug)]
+pub struct StepRecord {
+    pub mode: Mode,
+    pub address: u32,
+    pub word: u32,
+    pub answer: Stepped,
+}

@@ -1,0 +1,15 @@
+// What show gives of a register. (Of everything else it gives `Control`.)
+use word::ElementType;
+
+#[derive(Clone, Copy, PartialEq, Eq, Debug)]
+pub struct ShownData {
+    pub address: u32,
+    pub kind: ElementType,
+    pub bytes: [u8; 128],
+}
+
+#[derive(Clone, Copy, PartialEq, Eq, Debug)]
+pub struct ShownInstruction {
+    pub address: u32,
+    pub words: [u32; 32],
+}

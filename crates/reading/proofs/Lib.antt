@@ -1,0 +1,7 @@
+pub mod Numbered
+pub mod Places
+pub mod Rows
+pub mod Found
+pub mod Held
+pub mod Reading
+pub mod Worked
