@@ -1,11 +1,11 @@
 -- What moving, writing and sending back do to what the data registers stand for.
-use Rattle.std.proofs.Common.{◌≡◌, ◌≢◌, ℕ, ◌/◌, ◌<◌, Bool, true, false, not, ◌&&◌, ◌==◌, if◌then◌else◌, List, Some, None, Option, refl, sym, ap, ◌∙◌, arith, rules}
+use Rattle.std.proofs.Common.{◌≡◌, ◌≢◌, ℕ, Bool, true, false, not, ◌&&◌, ◌==◌, if◌then◌else◌, List, Some, None, Option, refl, sym, ap, ◌∙◌, arith, rules}
 use Rattle.std.proofs.Math.Path.{fun_ext}
 use Rattle.std.proofs.lemmas.Bool.{cond-false, true≢false}
 use Rattle.std.proofs.lemmas.Bool.Decides.{nat_tests}
 use Rattle.word.specs.declared.element.ElementType.{ElementType}
-use Rattle.store.specs.Meaning.{Meaning, with_line}
-use Rattle.flat.specs.Data.{Data, given, taken, sent_back, let_go, placed, written}
+use Rattle.store.specs.Meaning.{Meaning}
+use Rattle.flat.specs.Data.{Data, given, accepted, sent_back, let_go, placed, written}
 use Rattle.flat.specs.Registers.{at, is_zero, line_of, shared}
 use Rattle.flat.specs.declared.registers.DataRegister.{DataRegister}
 use Rattle.marks.specs.Marks.{with_mark}
@@ -17,8 +17,8 @@ pub same_data : (d e : Data) → d.registers ≡ e.registers → d.memory ≡ e.
 same_data d e r m t b = search (rules, r, m, t, b)
 
 -- a line that another one replaced is given as it was
-pub given_other : (m : Meaning) (n k : ℕ) (b : List ℕ) → (k == n) ≡ false → given (taken m n b) k ≡ given m k
-unfolding given taken
+pub given_other : (m : Meaning) (n k : ℕ) (b : List ℕ) → (k == n) ≡ false → given (accepted m n b) k ≡ given m k
+unfolding given accepted
 given_other m n k b h = grind (arith, nat_tests, h)
 
 -- the tag names one line
@@ -31,18 +31,18 @@ module _ (s : Names) (kinds : ℕ → ElementType) (marked : ℕ → Bool) (m : 
   unmarked_at k None h = grind (arith, nat_tests)
   unmarked_at k (Some u) h = grind (arith, nat_tests, h, named, one)
 
-  memory_at : (k : ℕ) (o : Option ℕ) → s.tag k ≡ o → of_tag o s.bytes (given (taken m n (s.bytes t)) k) ≡ of_tag o s.bytes (given m k)
+  memory_at : (k : ℕ) (o : Option ℕ) → s.tag k ≡ o → of_tag o s.bytes (given (accepted m n (s.bytes t)) k) ≡ of_tag o s.bytes (given m k)
   memory_at k None h = grind (arith, nat_tests, h, named, one, given_other)
   memory_at k (Some u) h = refl
 
   -- sending back the line of a tag
-  pub sends_back : data_of s kinds (with_mark marked t false) (taken m n (s.bytes t)) ≡ sent_back n (data_of s kinds marked m)
+  pub sends_back : data_of s kinds (with_mark marked t false) (accepted m n (s.bytes t)) ≡ sent_back n (data_of s kinds marked m)
   unfolding data_of sent_back
   sends_back =
       same_data _ _ refl
-        (fun_ext (λ k. memory_at k (s.tag k) refl))
-        (fun_ext (λ k. unmarked_at k (s.tag k) refl))
-        (ap (λ (o : Option ℕ). taken m n (of_tag o s.bytes (given m n))) (sym named))
+      (fun_ext (λ k. memory_at k (s.tag k) refl))
+      (fun_ext (λ k. unmarked_at k (s.tag k) refl))
+      (ap (λ (o : Option ℕ). accepted m n (of_tag o s.bytes (given m n))) (sym named))
 
 -- registers and tags after register r went to address a, where the line that it leaves is not marked
 module _ (s : Names) (kinds : ℕ → ElementType) (marked : ℕ → Bool) (m : Meaning) (r u a : ℕ) (real : is_zero r ≡ false) where
@@ -109,7 +109,7 @@ module _ (s : Names) (kinds : ℕ → ElementType) (marked : ℕ → Bool) (m : 
   unfolding data_of
   writes =
       ap (λ x. data_of x kinds (with_mark marked (tag_of s r) true) m) is_new
-        ∙ same_data _ _ refl (fun_ext (λ k. write_memory k (s.tag k) refl)) (fun_ext (λ k. write_touched k (s.tag k) refl)) refl
+      ∙ same_data _ _ refl (fun_ext (λ k. write_memory k (s.tag k) refl)) (fun_ext (λ k. write_touched k (s.tag k) refl)) refl
 
 -- tags that are not in use stay unmarked
 pub quiet_removed : (s : Names) (marked : ℕ → Bool) (t : ℕ) → Quiet s marked → Quiet s (with_mark marked t false)

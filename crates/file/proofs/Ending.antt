@@ -1,13 +1,10 @@
 -- What showing words and halting come to.
-use Rattle.std.proofs.Common.{◌≡◌, ℕ, zero, suc, ◌+◌, ◌*◌, ◌<◌, ◌≤◌, Bool, true, false, List, [], ◌∷◌, ◌++◌, length, take, slice_index, get_or, Ok, Err, Result, ap, refl, sym, ◌∙◌, arith}
+use Rattle.std.proofs.Common.{◌≡◌, ℕ, zero, suc, ◌*◌, ◌<◌, ◌≤◌, Bool, true, false, List, [], ◌∷◌, ◌++◌, length, take, slice_index, get_or, Ok, ap, refl, sym, ◌∙◌, arith}
 use Rattle.std.proofs.Math.Seq.{take-suc}
-use Rattle.std.proofs.lemmas.Bool.{cond-true}
 use Rattle.std.proofs.lemmas.List.{take_all}
 use Rattle.word.specs.Lines.{little_endian, WordsOf}
 use Rattle.store.specs.Meaning.{Meaning}
 use Rattle.flat.specs.Calls.{Flat, backing, cold, flush, halt, words_from}
-use Rattle.flat.specs.Data.{flushed}
-use Rattle.refusal.specs.declared.Refusal.{Refusal}
 use Rattle.file.specs.Files.{stands}
 use Rattle.file.specs.Machine.{stands as machine_stands}
 use Rattle.file.specs.Data.{stands as data_stands}
@@ -20,8 +17,8 @@ unfolding words_from
 words_are line ws zero l h = refl
 words_are line ws (suc n) l h =
     take-suc ws n 0 (omega arith)
-      ∙ (ap (λ xs. xs ++ get_or ws n 0 ∷ []) (words_are line ws n (omega arith) (λ k m. h k (omega arith)))
-      ∙ ap (λ x. words_from line n ++ x ∷ []) (h n (omega arith)))
+    ∙ (ap (λ xs. xs ++ get_or ws n 0 ∷ []) (words_are line ws n (omega arith) (λ k m. h k (omega arith)))
+    ∙ ap (λ x. words_from line n ++ x ∷ []) (h n (omega arith)))
 
 -- the 32 words of a line
 pub all_words : (line ws : List ℕ) → WordsOf line ws → ws ≡ words_from line 32

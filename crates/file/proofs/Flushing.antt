@@ -1,15 +1,13 @@
 -- What flushing does: the marked tags are the touched lines, one by one.
-use Rattle.std.proofs.Common.{◌≡◌, ◌≤◌, ℕ, zero, suc, ◌+◌, ◌<◌, Bool, true, false, ◌&&◌, ◌==◌, if◌then◌else◌, List, Some, None, Option, is_some, nat_lt, refl, sym, ap, ◌∙◌, arith, rules}
-use Rattle.std.specs.Prelude.{◌↔◌, ◌≢◌}
+use Rattle.std.proofs.Common.{◌≡◌, ◌≤◌, ℕ, zero, suc, ◌+◌, ◌<◌, Bool, true, false, ◌&&◌, ◌==◌, if◌then◌else◌, Some, None, Option, is_some, nat_lt, refl, sym, ap, ◌∙◌, arith, rules}
 use Rattle.std.proofs.Math.Path.{fun_ext}
 use Rattle.std.proofs.lemmas.Bool.{true≢false}
 use Rattle.std.proofs.lemmas.Bool.Decides.{nat_tests}
 use Rattle.word.specs.declared.element.ElementType.{ElementType}
-use Rattle.store.specs.Meaning.{Meaning, with_line}
-use Rattle.flat.specs.Data.{Data, taken, sent_back, flushed}
-use Rattle.flat.specs.Registers.{at}
+use Rattle.store.specs.Meaning.{Meaning}
+use Rattle.flat.specs.Data.{Data, accepted, sent_back, flushed}
 use Rattle.marks.specs.Marks.{none, with_mark, how_many}
-use Rattle.marks.proofs.Counting.{how_many-insert, how_many-remove, how_many-same, how_many-none, with_mark_cases}
+use Rattle.marks.proofs.Counting.{how_many-insert, how_many-remove, how_many-same, how_many-none}
 use Rattle.tags.specs.Names.{Names, IsLineOf}
 use Rattle.file.specs.Standing.{data_of, of_tag, Quiet}
 use Rattle.file.proofs.DataSide.{same_data, OneLine}
@@ -20,12 +18,12 @@ same_meaning m o s l c k = search (rules, s, l, c, k)
 -- once a touched line was sent back, flushing comes to the same
 module _ (n : ℕ) (d : Data) (touched : d.touched n ≡ true) where
   flushed_line : (w : Bool) → d.backing.canwrite n ≡ w → (k : ℕ) → (flushed (sent_back n d)).backing.line k ≡ (flushed d).backing.line k
-  unfolding flushed sent_back taken
+  unfolding flushed sent_back accepted
   flushed_line true h k = grind (arith, nat_tests, h, touched)
   flushed_line false h k = grind (arith, nat_tests, h, touched)
 
-  same_store : (w : Bool) → d.backing.canwrite n ≡ w → ((taken d.backing n (d.memory n)).size ≡ d.backing.size) × ((taken d.backing n (d.memory n)).canwrite ≡ d.backing.canwrite) × ((taken d.backing n (d.memory n)).kept ≡ d.backing.kept)
-  unfolding taken
+  same_store : (w : Bool) → d.backing.canwrite n ≡ w → ((accepted d.backing n (d.memory n)).size ≡ d.backing.size) × ((accepted d.backing n (d.memory n)).canwrite ≡ d.backing.canwrite) × ((accepted d.backing n (d.memory n)).kept ≡ d.backing.kept)
+  unfolding accepted
   same_store true h = grind (arith, h)
   same_store false h = grind (arith, h)
 
@@ -78,7 +76,7 @@ module _ (s : Names) (marked : ℕ → Bool) (most : ℕ) (one : OneLine s) (qui
   seen_step k true e (Some m) l before =
       let named = (l m).1 refl in
       how_many-same (seen (suc k)) (with_mark (seen k) m true) most (λ n h. seen_marked k m n (s.tag n) named refl e)
-        ∙ (how_many-insert (seen k) m most (grind (arith, nat_tests, named)) (within m k named) ∙ (ap (λ x. x + 1) before ∙ grind (arith, e)))
+      ∙ (how_many-insert (seen k) m most (grind (arith, nat_tests, named)) (within m k named) ∙ (ap (λ x. x + 1) before ∙ grind (arith, e)))
 
   seen_all : (k : ℕ) → how_many (seen k) most ≡ how_many marked k
   unfolding seen how_many
@@ -117,7 +115,7 @@ pub flushed_on : (s : Names) (kinds : ℕ → ElementType) (marked : ℕ → Boo
 unfolding data_of
 flushed_on s kinds marked m d n t named e f = ap flushed f ∙ flushed_rest n _ (ap (λ (o : Option ℕ). of_tag o marked false) named ∙ e)
 
--- fewer are marked once a mark is taken away
+-- fewer are marked once a mark is accepted away
 pub fewer : (marked marks : ℕ → Bool) (t last : ℕ) → marked t ≡ true → t < last → marks ≡ with_mark marked t false → how_many marks last < how_many marked last
 fewer marked marks t last e l f =
     let g = how_many-remove marked t last e l in

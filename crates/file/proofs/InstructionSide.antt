@@ -1,11 +1,10 @@
 -- What taking a line does to what the instruction registers stand for.
-use Rattle.std.proofs.Common.{◌≡◌, ◌≤◌, ℕ, zero, suc, ◌/◌, ◌<◌, Bool, true, false, not, ◌&&◌, ◌||◌, ◌==◌, if◌then◌else◌, List, Some, None, Option, refl, sym, ap, ◌∙◌, arith, rules}
+use Rattle.std.proofs.Common.{◌≡◌, ◌≤◌, ℕ, zero, suc, ◌<◌, Bool, true, false, ◌==◌, if◌then◌else◌, List, Some, None, Option, refl, sym, ap, ◌∙◌, arith}
 use Rattle.std.proofs.Math.Path.{fun_ext}
 use Rattle.std.proofs.lemmas.Bool.{cond-false, true≢false, cases_eq}
 use Rattle.std.proofs.lemmas.Bool.Decides.{nat_tests}
 use Rattle.std.specs.Option.{option_or, option_map, unwrap_or}
-
-use Rattle.flat.specs.Instructions.{Instruction, addresses, held, take}
+use Rattle.flat.specs.Instructions.{held, take}
 use Rattle.flat.specs.Registers.{zeros, at, is_zero, is_real, line_of, names, shared}
 use Rattle.line.specs.Dividing.{somewhere}
 use Rattle.tags.specs.Names.{Names, Unused, gone, tag_of}
@@ -29,13 +28,13 @@ module _ (s : Names) (n : ℕ) where
   line_bytes = of_tag (s.tag n) s.bytes zeros
 
   -- the words of a register that names the line
-  words_here : (k : ℕ) → k < 128 → names s.address k n ≡ true → (instructions_of s k).words ≡ line_bytes
+  words_here : (k : ℕ) → k < 128 → names s.address k n ≡ true → (instructions_of s k).bytes ≡ line_bytes
   unfolding instructions_of
   words_here k l h = grind (arith, nat_tests, h, l)
 
   -- the words of register k where it names the line
   abbrev own : ℕ → Option (List ℕ)
-  own k = if names s.address k n then Some (instructions_of s k).words else None
+  own k = if names s.address k n then Some (instructions_of s k).bytes else None
 
   own_bytes : (k : ℕ) → k < 128 → (x : List ℕ) (z : Bool) → names s.address k n ≡ z → own k ≡ Some x → (x ≡ line_bytes) × (z ≡ true)
   own_bytes k l x true h e = (grind (arith, h, e, words_here k l h), refl)
@@ -107,7 +106,7 @@ module _ (s : Names) (r u a : ℕ) (memory : ℕ → List ℕ) (within : r < 128
   after = gone r a u (memory (line_of a)) s
 
   -- r itself
-  words_own : (q : ℕ) (o : Option ℕ) → s.tag (line_of a) ≡ o → q ≡ r → instructions_of after q ≡ record { address = a; words = unwrap_or (option_map s.bytes o) (memory (line_of a)) }
+  words_own : (q : ℕ) (o : Option ℕ) → s.tag (line_of a) ≡ o → q ≡ r → instructions_of after q ≡ record { address = a; bytes = unwrap_or (option_map s.bytes o) (memory (line_of a)) }
   unfolding instructions_of gone
   words_own q None h e = grind (arith, nat_tests, h, e, real, within)
   words_own q (Some t) h e = grind (arith, nat_tests, h, e, real, within)
@@ -129,7 +128,7 @@ module _ (s : Names) (r u a : ℕ) (memory : ℕ → List ℕ) (within : r < 128
       let l = linked q (grind (arith, nat_tests, z)) (grind (arith, nat_tests, z)) in
       grind (arith, nat_tests, h, z, e, w, real, l)
 
-  words_after : (q : ℕ) (y : Bool) → (q == r) ≡ y → instructions_of after q ≡ (if y then record { address = a; words = unwrap_or (option_map s.bytes (s.tag (line_of a))) (memory (line_of a)) } else instructions_of s q)
+  words_after : (q : ℕ) (y : Bool) → (q == r) ≡ y → instructions_of after q ≡ (if y then record { address = a; bytes = unwrap_or (option_map s.bytes (s.tag (line_of a))) (memory (line_of a)) } else instructions_of s q)
   words_after q true e = words_own q (s.tag (line_of a)) refl (grind (arith, nat_tests, e))
   words_after q false e = words_other q (s.tag (line_of a)) (is_real q) (line_of (s.address q) == line_of (s.address r)) refl refl e refl
 
@@ -137,5 +136,5 @@ module _ (s : Names) (r u a : ℕ) (memory : ℕ → List ℕ) (within : r < 128
   unfolding take
   takes =
       fun_ext (λ q. words_after q (q == r) refl)
-        ∙ (ap (λ w. at (instructions_of s) r (record { address = a; words = unwrap_or w (memory (line_of a)) })) (sym (held_tag s (line_of a) linked used))
-        ∙ sym (cond-false _ _ _ real))
+      ∙ (ap (λ w. at (instructions_of s) r (record { address = a; bytes = unwrap_or w (memory (line_of a)) })) (sym (held_tag s (line_of a) linked used))
+      ∙ sym (cond-false _ _ _ real))

@@ -7,3 +7,4 @@ pub mod Writing
 pub mod Sending
 pub mod Taking
 pub mod Ending
+pub mod Handing

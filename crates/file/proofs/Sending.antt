@@ -1,26 +1,26 @@
 -- Sending a line back, leaving it and going to another, as the code does it.
-use Rattle.std.proofs.Common.{◌≡◌, ◌≢◌, ℕ, ◌/◌, ◌<◌, Bool, true, false, not, ◌&&◌, ◌==◌, if◌then◌else◌, List, length, get_or, slice_set, Some, None, Option, ap, refl, sym, subst, ◌∙◌, arith}
+use Rattle.std.proofs.Common.{◌≡◌, ℕ, ◌<◌, Bool, true, false, not, ◌&&◌, ◌==◌, if◌then◌else◌, List, length, get_or, slice_set, Some, None, Option, ap, refl, sym, subst, ◌∙◌, arith}
 use Rattle.std.proofs.Math.Path.{fun_ext}
-use Rattle.std.proofs.lemmas.Bool.{cond-true, cond-false, true≢false, cases_eq}
+use Rattle.std.proofs.lemmas.Bool.{cond-true, cond-false, cases_eq}
 use Rattle.std.proofs.lemmas.Grind.{common_steps}
 use Rattle.std.proofs.lemmas.Bool.Decides.{nat_tests}
 use Rattle.word.specs.declared.element.ElementType.{ElementType}
 use Rattle.word.specs.declared.element.ElementType.TheVariants.{U8}
 use Rattle.store.specs.Meaning.{Meaning}
-use Rattle.flat.specs.Data.{Data, given, taken, write, sent, sent_back, left, let_go, leaves, line, placed, move}
+use Rattle.flat.specs.Data.{Data, given, accepted, sent, sent_back, left, let_go, leaves, line, placed, move}
 use Rattle.flat.specs.Registers.{at, is_zero, line_of, shared}
 use Rattle.flat.specs.declared.registers.DataRegister.{DataRegister}
 use Rattle.marks.specs.Marks.{with_mark}
-use Rattle.tags.specs.Names.{Names, Sound, Goes, Unused, gone, tag_of}
+use Rattle.tags.specs.Names.{Names, Sound, Goes, gone, tag_of}
 use Rattle.file.specs.Data.{leaves_line, sends}
 use Rattle.file.specs.Standing.{data_of, of_tag, Quiet}
-use Rattle.file.proofs.DataSide.{OneLine, sends_back, goes, quiet_removed, quiet_gone}
+use Rattle.file.proofs.DataSide.{sends_back, goes, quiet_removed, quiet_gone}
 
-pub sent_stands : (s : Names) (kinds : ℕ → ElementType) (marked marks : ℕ → Bool) (m store : Meaning) (n t : ℕ) (bs : List ℕ) → s.tag n ≡ Some t → Sound s → bs ≡ s.bytes t → store ≡ taken m n bs → marks ≡ with_mark marked t false → data_of s kinds marks store ≡ sent_back n (data_of s kinds marked m)
+pub sent_stands : (s : Names) (kinds : ℕ → ElementType) (marked marks : ℕ → Bool) (m store : Meaning) (n t : ℕ) (bs : List ℕ) → s.tag n ≡ Some t → Sound s → bs ≡ s.bytes t → store ≡ accepted m n bs → marks ≡ with_mark marked t false → data_of s kinds marks store ≡ sent_back n (data_of s kinds marked m)
 sent_stands s kinds marked marks m store n t bs named sound e f g =
     ap (λ x. data_of s kinds x store) g
-      ∙ (ap (λ x. data_of s kinds (with_mark marked t false) x) (f ∙ ap (taken m n) e)
-      ∙ sends_back s kinds marked m n t named sound.one)
+    ∙ (ap (λ x. data_of s kinds (with_mark marked t false) x) (f ∙ ap (accepted m n) e)
+    ∙ sends_back s kinds marked m n t named sound.one)
 
 pub sent_quiet : (s : Names) (marked marks : ℕ → Bool) (t : ℕ) → marks ≡ with_mark marked t false → Quiet s marked → Quiet s marks
 sent_quiet s marked marks t e quiet = subst (λ (x : ℕ → Bool). Quiet s x) (sym e) (quiet_removed s marked t quiet)
@@ -51,7 +51,7 @@ module _ (s : Names) (kinds : ℕ → ElementType) (marked : ℕ → Bool) (m : 
   unfolding sent data_of
   sends_some h = cond-true _ _ _ (ap (λ (o : Option ℕ). leaves_line s r a && of_tag o marked false) linked ∙ h)
 
--- the tag whose mark was taken away
+-- the tag whose mark was accepted away
 pub removed : (marked marks : ℕ → Bool) (t u : ℕ) → marks ≡ with_mark marked t false → t ≡ u → marks u ≡ false
 unfolding with_mark
 removed marked marks t u e f = ap (λ (p : ℕ → Bool). p u) e ∙ grind (arith, nat_tests, f)
@@ -61,10 +61,10 @@ pub moves : (d after : Data) (r : ℕ) (to : DataRegister) (v : Bool) → is_zer
 unfolding move sends left
 moves d after r to true real h e =
     ap (λ x. placed r to (let_go (line d r) x)) (e ∙ ap (λ v. if v && d.touched (line d r) then sent_back (line d r) d else d) h)
-      ∙ sym (cond-false _ _ _ real ∙ ap (λ v. placed r to (if v then let_go (line d r) (if d.touched (line d r) then sent_back (line d r) d else d) else d)) h)
+    ∙ sym (cond-false _ _ _ real ∙ ap (λ v. placed r to (if v then let_go (line d r) (if d.touched (line d r) then sent_back (line d r) d else d) else d)) h)
 moves d after r to false real h e =
     ap (placed r to) (e ∙ ap (λ v. if v && d.touched (line d r) then sent_back (line d r) d else d) h)
-      ∙ sym (cond-false _ _ _ real ∙ ap (λ v. placed r to (if v then let_go (line d r) (if d.touched (line d r) then sent_back (line d r) d else d) else d)) h)
+    ∙ sym (cond-false _ _ _ real ∙ ap (λ v. placed r to (if v then let_go (line d r) (if d.touched (line d r) then sent_back (line d r) d else d) else d)) h)
 
 -- a zero register does not move
 pub stays_zero : (r : ℕ) (to : DataRegister) (d : Data) → is_zero r ≡ true → d ≡ move r to d
@@ -98,10 +98,10 @@ module _ (s after : Names) (types : List ElementType) (marked marks : ℕ → Bo
   pub go_stands : data_of s kinds marks store ≡ sends r to.address (data_of s kinds marked m) → Goes r to.address (given store (line_of to.address)) s after → Quiet s marks → (leaves r to.address (data_of s kinds marked m) ≡ true → marks (tag_of s r) ≡ false) → data_of after (λ (q : ℕ). get_or (slice_set types i to.kind) q U8) marks store ≡ move r to (data_of s kinds marked m)
   go_stands f gone quiet clean =
       ap (λ (x : ℕ → ElementType). data_of after x marks store) (fun_ext (λ q. type_set types r q i to.kind e long))
-        ∙ (ap (λ (x : Names). data_of x (at kinds r to.kind) marks store) gone.2
-        ∙ (goes s kinds marks store r gone.0 to.address real sound.one quiet (gone.1 real) (λ h. ap (λ (o : Option ℕ). of_tag o marks false) (sound.linked r within real) ∙ clean (apart_leaves ∙ h)) to.kind
-        ∙ (same_line (data_of s kinds marks store)
-        ∙ moves (data_of s kinds marked m) (data_of s kinds marks store) r to (leaves r to.address (data_of s kinds marked m)) real refl f)))
+      ∙ (ap (λ (x : Names). data_of x (at kinds r to.kind) marks store) gone.2
+      ∙ (goes s kinds marks store r gone.0 to.address real sound.one quiet (gone.1 real) (λ h. ap (λ (o : Option ℕ). of_tag o marks false) (sound.linked r within real) ∙ clean (apart_leaves ∙ h)) to.kind
+      ∙ (same_line (data_of s kinds marks store)
+      ∙ moves (data_of s kinds marked m) (data_of s kinds marks store) r to (leaves r to.address (data_of s kinds marked m)) real refl f)))
 
   pub go_quiet : Goes r to.address (given store (line_of to.address)) s after → Quiet s marks → (leaves r to.address (data_of s kinds marked m) ≡ true → marks (tag_of s r) ≡ false) → Quiet after marks
   go_quiet gone quiet clean =

@@ -1,5 +1,5 @@
 -- The data registers after boot.
-use Rattle.std.proofs.Common.{◌≡◌, ℕ, zero, suc, get_or, replicate, Bool, true, false, List, ◌==◌, if◌then◌else◌, Some, None, Option, ap, refl, sym, ◌∙◌, arith}
+use Rattle.std.proofs.Common.{◌≡◌, ℕ, zero, suc, get_or, replicate, Bool, true, false, List, ◌==◌, Some, None, Option, ap, refl, ◌∙◌, arith}
 use Rattle.std.proofs.Math.Path.{fun_ext}
 use Rattle.std.proofs.lemmas.Bool.Decides.{nat_tests}
 use Rattle.word.specs.declared.element.ElementType.{ElementType}
@@ -27,7 +27,7 @@ starts_with : (s : Names) (kinds : ℕ → ElementType) (marked : ℕ → Bool) 
 unfolding data_of started
 starts_with s kinds marked m b e f g h =
     ap (λ x. data_of x kinds marked m) (f ∙ ap started e)
-      ∙ (ap (λ x. data_of (started (given m 0)) kinds x m) h ∙ on_store (fun_ext g))
+    ∙ (ap (λ x. data_of (started (given m 0)) kinds x m) h ∙ on_store (fun_ext g))
   where
     register_at : (r : ℕ) → record { address = (started (given m 0)).address r; kind = kinds r } ≡ (let x : DataRegister = record { address = 0; kind = U8 } in x)
     register_at r = grind (arith, g r)

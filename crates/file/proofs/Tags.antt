@@ -1,6 +1,5 @@
 -- The tag that a bank answers for a register.
-use Rattle.std.proofs.Common.{◌≡◌, ℕ, ◌/◌, Bool, true, false, Some, Option, ap, refl, sym, ◌∙◌, arith}
-use Rattle.std.proofs.lemmas.Bool.Decides.{nat_tests}
+use Rattle.std.proofs.Common.{◌≡◌, ℕ, ◌/◌, Bool, true, false, Some, refl, arith}
 use Rattle.tags.specs.Names.{Names, tag_of}
 use Rattle.flat.specs.Registers.{is_zero}
 

@@ -1,14 +1,14 @@
 -- The instruction registers, as the code has them.
-use Rattle.std.proofs.Common.{◌≡◌, ℕ, ◌/◌, ◌<◌, Bool, true, false, List, length, Some, None, Option, ap, refl, sym, subst, ◌∙◌, arith}
+use Rattle.std.proofs.Common.{◌≡◌, ℕ, ◌<◌, Bool, true, false, List, ap, refl, sym, ◌∙◌, arith}
 use Rattle.std.proofs.Math.Path.{fun_ext}
 use Rattle.std.proofs.lemmas.Bool.{cond-true}
 use Rattle.std.proofs.lemmas.Bool.Decides.{nat_tests}
 use Rattle.flat.specs.Calls.{started_instructions}
 use Rattle.flat.specs.Registers.{zeros, is_real, is_zero, line_of}
-use Rattle.flat.specs.Instructions.{Instruction, take}
+use Rattle.flat.specs.Instructions.{take}
 use Rattle.tags.specs.Names.{Names, Sound, Goes, gone, started, tag_of}
 use Rattle.tags.specs.Invariants.{all}
-use Rattle.file.specs.Standing.{instructions_of, of_tag}
+use Rattle.file.specs.Standing.{instructions_of}
 use Rattle.file.proofs.InstructionSide.{takes}
 
 start_at : (b : List ℕ) (r : ℕ) (z : Bool) → is_real r ≡ z → instructions_of (started b) r ≡ started_instructions b r
@@ -29,11 +29,11 @@ took_by s after r a memory false h within sound goes =
 pub took : (s after : Names) (r a : ℕ) (memory : ℕ → List ℕ) → r < 128 → Sound s → Goes r a (memory (line_of a)) s after → instructions_of after ≡ take r a memory (instructions_of s)
 took s after r a memory = took_by s after r a memory (is_zero r) refl
 
-words_by : (s : Names) (r t : ℕ) (z : Bool) → is_zero r ≡ z → r < 128 → Sound s → t ≡ tag_of s r → s.bytes t ≡ (instructions_of s r).words
+words_by : (s : Names) (r t : ℕ) (z : Bool) → is_zero r ≡ z → r < 128 → Sound s → t ≡ tag_of s r → s.bytes t ≡ (instructions_of s r).bytes
 unfolding instructions_of zeros all
 words_by s r t true h within sound e = grind (arith, nat_tests, h, within, e, sound.zero_bytes)
 words_by s r t false h within sound e = grind (arith, nat_tests, h, within, e, sound.linked r within h)
 
--- a register's words are the bytes of its tag
-pub words_are : (s : Names) (r t : ℕ) → r < 128 → Sound s → t ≡ tag_of s r → s.bytes t ≡ (instructions_of s r).words
+-- a register has the bytes of its tag
+pub words_are : (s : Names) (r t : ℕ) → r < 128 → Sound s → t ≡ tag_of s r → s.bytes t ≡ (instructions_of s r).bytes
 words_are s r t = words_by s r t (is_zero r) refl

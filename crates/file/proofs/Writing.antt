@@ -1,6 +1,5 @@
 -- Writing a register's line, as the code does it.
-use Rattle.std.proofs.Common.{◌≡◌, ◌≢◌, ℕ, ◌/◌, ◌<◌, Bool, true, false, if◌then◌else◌, nat_lt, List, Some, Option, ap, refl, sym, subst, ◌∙◌, arith}
-use Rattle.std.proofs.Math.Path.{fun_ext}
+use Rattle.std.proofs.Common.{◌≡◌, ℕ, ◌/◌, ◌<◌, Bool, true, false, if◌then◌else◌, nat_lt, List, ap, refl, sym, subst, ◌∙◌, arith}
 use Rattle.std.proofs.lemmas.Bool.{cond-true, cond-false}
 use Rattle.std.proofs.lemmas.Bool.Decides.{nat_tests}
 use Rattle.word.specs.declared.element.ElementType.{ElementType}
@@ -37,9 +36,9 @@ pub write_stands : (s after : Names) (kinds : ℕ → ElementType) (marked marks
 unfolding write data_of
 write_stands s after kinds marked marks r t bs within real sound e f g m =
     ap (λ x. data_of x kinds marks m) f
-      ∙ (ap (λ x. data_of (written_names r bs s) kinds x m) (g ∙ marks_tag s marked r t within real sound e)
-      ∙ (writes s kinds marked m r bs real (sound.linked r within real) sound.one
-      ∙ sym (cond-false _ _ _ real)))
+    ∙ (ap (λ x. data_of (written_names r bs s) kinds x m) (g ∙ marks_tag s marked r t within real sound e)
+    ∙ (writes s kinds marked m r bs real (sound.linked r within real) sound.one
+    ∙ sym (cond-false _ _ _ real)))
 
 pub write_quiet : (s after : Names) (marked marks : ℕ → Bool) (r t : ℕ) (bs : List ℕ) → r < 128 → is_zero r ≡ false → Sound s → t ≡ tag_of s r → after ≡ written_names r bs s → marks ≡ (if nat_lt t 128 then with_mark marked t true else marked) → Quiet s marked → Quiet after marks
 write_quiet s after marked marks r t bs within real sound e f g quiet =

@@ -1,13 +1,12 @@
 -- What the data registers of a file stand for on a store.
-use Rattle.std.specs.Prelude.{◌≡◌, ◌<◌, ℕ, true, Some, None, Option, get_or, List, Bool, not, ◌==◌, ◌&&◌, if◌then◌else◌}
+use Rattle.std.specs.Prelude.{◌≡◌, ◌<◌, ℕ, true, Some, None, Option, get_or, Bool, not, ◌==◌, ◌&&◌, if◌then◌else◌}
 use Rattle.word.specs.declared.element.ElementType.TheVariants.{U8}
 use Rattle.store.specs.Meaning.{Meaning}
 use Rattle.flat.specs.Data.{Data, leaves, line, sent_back}
-use Rattle.flat.specs.declared.registers.DataRegister.{DataRegister}
 use Rattle.marks.specs.Marks.{marked, none}
 use Rattle.tags.specs.declared.tag.Tag.{Tag}
 use Rattle.tags.specs.Meaning.{names}
-use Rattle.tags.specs.Names.{Names, tag_of}
+use Rattle.tags.specs.Names.{Names}
 use Rattle.flat.specs.Registers.{is_zero, line_of, shared}
 use Rattle.file.specs.Standing.{data_of}
 use Rattle.file.specs.declared.data.DataRegisters.{DataRegisters}

@@ -1,7 +1,6 @@
 -- What registers with tags stand for: the flat machine's registers and memory.
-use Rattle.std.specs.Prelude.{◌≡◌, ◌≢◌, ℕ, Bool, false, if◌then◌else◌, List, Some, None, Option}
+use Rattle.std.specs.Prelude.{◌≡◌, ◌≢◌, ℕ, Bool, false, if◌then◌else◌, Some, None, Option}
 use Rattle.word.specs.declared.element.ElementType.{ElementType}
-
 use Rattle.store.specs.Meaning.{Meaning}
 use Rattle.flat.specs.Data.{Data, given}
 use Rattle.flat.specs.Instructions.{Instruction}
@@ -23,9 +22,9 @@ data_of s kinds marked m =
       backing = m;
     }
 
--- An instruction register's words are those of its line's tag.
+-- An instruction register has the bytes of its line's tag.
 unfoldable pub instructions_of : Names → ℕ → Instruction
-instructions_of s r = record { address = s.address r; words = if is_real r then of_tag (s.tag (line_of (s.address r))) s.bytes zeros else zeros }
+instructions_of s r = record { address = s.address r; bytes = if is_real r then of_tag (s.tag (line_of (s.address r))) s.bytes zeros else zeros }
 
 -- Marks are of tags in use: a tag that names no line is not marked.
 abbrev pub Quiet : Names → (ℕ → Bool) → Type 0

@@ -1,6 +1,6 @@
 // The store as the machine's backing copy: what it gives of a line, and what it holds once it was sent one.
 ghost use Rattle.std.specs.Prelude.{◌≡◌};
-ghost use Rattle.flat.specs.Data.{given, taken};
+ghost use Rattle.flat.specs.Data.{given, accepted};
 ghost use Rattle.flat.specs.Registers.{zeros};
 ghost use Rattle.file.specs.Backing.{given_whole};
 
@@ -26,9 +26,9 @@ pub(crate) fn give<S: Store>(store: &S, line: u32, out: &mut [u8; 128])
 }
 
 // Sends a line; one that the store will not take is lost.
-#[tactic(auto, unfolding(flat::specs::Data::taken))]
+#[tactic(auto, unfolding(flat::specs::Data::accepted))]
 pub(crate) fn send<S: Store>(store: &mut S, line: u32, bytes: &[u8; 128])
-    ensures { S.meaning store.new ≡ taken (S.meaning store.old) line bytes.now }
+    ensures { S.meaning store.new ≡ accepted (S.meaning store.old) line bytes.now }
 {
     let _lost = store.write(line, bytes);
 }

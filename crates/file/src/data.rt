@@ -25,7 +25,7 @@ pub struct DataRegisters {
 impl DataRegisters {
     ghost use Rattle.std.specs.Prelude.{◌&&◌, true, false, ◌/◌, Some, option_map, get_or};
     ghost use Rattle.flat.specs.Calls.{started_data, touched_lines};
-    ghost use Rattle.flat.specs.Data.{leaves, move, sent, sent_back, shown, write, flushed};
+    ghost use Rattle.flat.specs.Data.{leaves, move, sent, sent_back, shown, write, flushed, handed};
     ghost use Rattle.flat.specs.Registers.{is_zero};
     ghost use Rattle.marks.specs.Marks.{with_mark};
     ghost use Rattle.tags.specs.Names.{tag_of};
@@ -42,6 +42,21 @@ impl DataRegisters {
             kinds: all_u8(),
             marks: Marks::new(),
         }
+    }
+
+    // The registers with their tags.
+    pub fn bank(&self) -> &Bank
+        ensures { result.now ≡ self.now.bank }
+    {
+        &self.bank
+    }
+
+    // On another store, they stand for what the flat machine has when it is handed that store: a fact for
+    // proofs, at no cost.
+    pub fn on_any_store(&self)
+        ensures { (m other : Meaning) → stands self.now other ≡ handed other (stands self.now m) }
+    {
+        self.bank.sound();
     }
 
     // A register's address and type.
@@ -82,7 +97,6 @@ impl DataRegisters {
         self.bank.tag(register)
     }
 
-
     // Changes the bytes of a register's line where they lie.
     #[tactic(auto, unfolding(crate::specs::Data::stands))]
     pub fn write<C: Change>(&mut self, register: Register, change: &C)
@@ -114,7 +128,8 @@ impl DataRegisters {
     fn sends(&self, register: Register, address: u32) -> bool
         ensures { result ≡ (leaves_line (names self.now.bank) register.number address && marked self.now.marks (tag_of (names self.now.bank) register.number)) }
     {
-        let leaves = self.bank.is_last(register) && self.bank.address(register) / 128 != address / 128;
+        let leaves = self.bank.is_last(register)
+            && self.bank.address(register) / 128 != address / 128;
         leaves && self.marks.contains(self.tag(register).number())
     }
 
@@ -139,7 +154,12 @@ impl DataRegisters {
     }
 
     // Moves a register to an address and a type, and answers the line that was sent back, if any.
-    pub fn go<S: Store>(&mut self, register: Register, to: DataRegister, store: &mut S) -> Option<u32>
+    pub fn go<S: Store>(
+        &mut self,
+        register: Register,
+        to: DataRegister,
+        store: &mut S,
+    ) -> Option<u32>
         ensures data { stands self.new (S.meaning store.new) ≡ move register.number to (stands self.old (S.meaning store.old)) }
         ensures sent { result ≡ sent register.number to.address (stands self.old (S.meaning store.old)) }
     {

@@ -2,7 +2,7 @@
 // the order of the rules, and a refused call changes nothing.
 ghost use Rattle.std.specs.Prelude.{◌≡◌, OnErr};
 ghost use Rattle.store.specs.Meaning.{Meaning};
-ghost use Rattle.flat.specs.Calls.{boot, pin, flush, halt, show_data, show_instruction, show_rest};
+ghost use Rattle.flat.specs.Calls.{boot, pin, flush, halt, on_store, show_data, show_instruction, show_rest};
 ghost use Rattle.file.specs.Files.{IsWarm, stands};
 
 use crate::machine::Machine;
@@ -36,6 +36,17 @@ impl File {
         Ok(())
     }
 
+    // On another store, the file stands for the flat machine that is handed that store: a fact for proofs, at
+    // no cost.
+    #[tactic(auto, unfolding(crate::specs::Files::stands, crate::specs::Machine::stands, flat::specs::Calls::on_store, flat::specs::Calls::cold))]
+    pub fn on_any_store(&self)
+        ensures { (m other : Meaning) → stands self.now other ≡ on_store other (stands self.now m) }
+    {
+        if let File::Warm(machine) = self {
+            machine.registers.on_any_store();
+        }
+    }
+
     // Puts the interrupt pin up or down.
     #[tactic(auto, unfolding(crate::specs::Files::stands, crate::specs::Machine::stands, flat::specs::Calls::cold, flat::specs::Calls::pin))]
     pub fn pin(&mut self, up: bool) -> Result<(), Refusal>
@@ -53,7 +64,7 @@ impl File {
     }
 
     // The machine of a warm file; a cold one is refused.
-    fn warm(&self) -> Result<&Machine, Refusal>
+    pub fn machine(&self) -> Result<&Machine, Refusal>
         ensures { IsWarm self.now result }
     {
         match self {
@@ -67,11 +78,15 @@ impl File {
     pub fn show_data(&self, number: u8) -> Result<ShownData, Refusal>
         ensures { (m : Meaning) → result ≡ (show_data number (stands self.now m)).answer }
     {
-        let machine = self.warm()?;
+        let machine = self.machine()?;
         let register = Register::try_from(number)?;
         let DataRegister { address, kind } = machine.registers.register(register);
         let bytes = *machine.registers.bytes(register);
-        Ok(ShownData { address, kind, bytes })
+        Ok(ShownData {
+            address,
+            kind,
+            bytes,
+        })
     }
 
     // An instruction register's address and words.
@@ -79,10 +94,10 @@ impl File {
     pub fn show_instruction(&self, number: u8) -> Result<ShownInstruction, Refusal>
         ensures { (m : Meaning) → result ≡ (show_instruction number (stands self.now m)).answer }
     {
-        let machine = self.warm()?;
+        let machine = self.machine()?;
         let register = Register::try_from(number)?;
         let address = machine.instructions.address(register);
-        let words = words(machine.instructions.words(register));
+        let words = words(machine.instructions.bytes(register));
         Ok(ShownInstruction { address, words })
     }
 
@@ -91,7 +106,7 @@ impl File {
     pub fn show_rest(&self) -> Result<Control, Refusal>
         ensures { (m : Meaning) → result ≡ (show_rest (stands self.now m)).answer }
     {
-        Ok(self.warm()?.control)
+        Ok(self.machine()?.control)
     }
 
     // Sends back every touched line, and answers how many they were.

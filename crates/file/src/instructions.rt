@@ -1,4 +1,4 @@
-// The instruction registers: a bank of them. Their words are the bytes of their tags.
+// The instruction registers: a bank of them. The bytes of their words are those of their tags.
 ghost use Rattle.std.specs.Prelude.{◌≡◌};
 ghost use Rattle.file.specs.Data.{stands as data_side};
 
@@ -26,6 +26,13 @@ impl InstructionRegisters {
         }
     }
 
+    // The registers with their tags.
+    pub fn bank(&self) -> &Bank
+        ensures { result.now ≡ self.now.bank }
+    {
+        &self.bank
+    }
+
     #[tactic(auto, unfolding(crate::specs::Instructions::stands, crate::specs::Standing::instructions_of))]
     pub fn address(&self, register: Register) -> u32
         ensures { result ≡ (stands self.now register.number).address }
@@ -33,9 +40,9 @@ impl InstructionRegisters {
         self.bank.address(register)
     }
 
-    // A register's words, as the bytes of the line that it took.
-    pub fn words(&self, register: Register) -> &[u8; 128]
-        ensures { result.now ≡ (stands self.now register.number).words }
+    // The bytes of a register's words.
+    pub fn bytes(&self, register: Register) -> &[u8; 128]
+        ensures { result.now ≡ (stands self.now register.number).bytes }
     {
         self.bank.sound();
         self.bank.bytes(self.bank.tag(register))

@@ -6,7 +6,7 @@ use Rattle.word.specs.Lines.{little_endian}
 use Rattle.word.specs.declared.element.ElementType.TheVariants.{U8}
 use Rattle.marks.specs.Marks.{how_many}
 use Rattle.store.specs.Meaning.{Meaning, most}
-use Rattle.flat.specs.Data.{Data, given, shown, flushed}
+use Rattle.flat.specs.Data.{Data, given, shown, flushed, handed}
 use Rattle.flat.specs.Instructions.{Instruction}
 use Rattle.flat.specs.Machine.{Machine, with_data, with_control, word, ipc_address}
 use Rattle.flat.specs.Registers.{zeros, is_real}
@@ -33,13 +33,15 @@ pub record Called (X : Type 0) : Type 0 where
 abbrev pub refused : {X : Type 0} → Refusal → Flat → Called X
 refused why f = record { answer = Err why; flat = f }
 
+-- A call that is not refused.
 abbrev pub answered : {X : Type 0} → X → Flat → Called X
 answered x f = record { answer = Ok x; flat = f }
 
+-- The same warmth, with another machine.
 abbrev pub with_machine : Machine → Flat → Flat
-with_machine m f = record { warm = f.warm; machine = m }
+with_machine m f = record f { machine = m }
 
--- Everything else is zero: user mode's number is no zero, so the mode is named.
+-- Supervisor mode, everything else zero.
 abbrev pub blank_control : Control
 blank_control = record { mode = Supervisor; ie = false; xct = 0; swiargs = zeros ∷ zeros ∷ zeros ∷ zeros ∷ []; pin = false }
 
@@ -49,9 +51,9 @@ started_data m = record { registers = λ r. record { address = 0; kind = U8 }; m
 
 -- Every instruction register is at address 0 and holds the words of line 0; a zero register shows zeros.
 abbrev pub started_instructions : List ℕ → ℕ → Instruction
-started_instructions line r = record { address = 0; words = if is_real r then line else zeros }
+started_instructions line r = record { address = 0; bytes = if is_real r then line else zeros }
 
--- The machine after boot: supervisor mode, everything else zero.
+-- The machine that boot starts.
 unfoldable pub started : Meaning → Machine
 started m = record { data_registers = started_data m; instructions = started_instructions (given m 0); control = blank_control }
 
@@ -59,6 +61,7 @@ started m = record { data_registers = started_data m; instructions = started_ins
 unfoldable pub cold : Meaning → Flat
 cold m = record { warm = false; machine = record { data_registers = started_data m; instructions = started_instructions zeros; control = blank_control } }
 
+-- The backing copy.
 abbrev pub backing : Flat → Meaning
 backing f = f.machine.data_registers.backing
 
@@ -123,6 +126,7 @@ unfoldable pub steps_while : (Steps → Bool) → ℕ → Steps → Steps
 steps_while go zero s = s
 steps_while go (suc limit) s = if go s then steps_while go limit (one_more s) else s
 
+-- A run goes on as long as no step entered.
 abbrev pub runs_on : Steps → Bool
 runs_on s = not (has_entered s.ran.last)
 
@@ -134,6 +138,7 @@ run_steps limit m = steps_while runs_on limit (no_steps m)
 abbrev pub within_limit : {X : Type 0} → ℕ → (Flat → Called X) → Flat → Called X
 within_limit limit call f = if nat_lt most_steps limit then refused OverLimit f else call f
 
+-- Run answers the steps made and the last answer.
 unfoldable pub run : ℕ → Flat → Called Ran
 run limit = when_warm (within_limit limit (λ f. answered (run_steps limit f.machine).ran (with_machine (run_steps limit f.machine).machine f)))
 
@@ -141,6 +146,7 @@ run limit = when_warm (within_limit limit (λ f. answered (run_steps limit f.mac
 abbrev pub traces_on : ℕ → ℕ → Steps → Bool
 traces_on steps_space lines_space s = runs_on s && nat_lt (length s.records) steps_space && nat_lt (length s.sent) lines_space
 
+-- Trace makes up to its limit of steps.
 abbrev pub trace_steps : ℕ → ℕ → ℕ → Machine → Steps
 trace_steps limit steps_space lines_space m = steps_while (traces_on steps_space lines_space) limit (no_steps m)
 
@@ -150,9 +156,11 @@ pub record Traced : Type 0 where
   pub records : List StepRecord
   pub sent : List ℕ
 
+-- What trace answers and adds, of the steps that it made.
 abbrev pub traced : Steps → Traced
 traced s = record { ran = s.ran; records = s.records; sent = s.sent }
 
+-- Trace is given the limit, and the space left in each trail.
 unfoldable pub trace : ℕ → ℕ → ℕ → Flat → Called Traced
 trace limit steps_space lines_space =
     when_warm (within_limit limit (λ f. let s = trace_steps limit steps_space lines_space f.machine in answered (traced s) (with_machine s.machine f)))
@@ -169,14 +177,16 @@ of_register r show f = if nat_lt r 128 then answered (show f.machine) f else ref
 abbrev pub data_shown : ℕ → Machine → ShownData
 data_shown r m = record { address = (m.data_registers.registers r).address; kind = (m.data_registers.registers r).kind; bytes = shown m.data_registers r }
 
--- An instruction register's address and its 32 words.
+-- The first k words of a line.
 unfoldable pub words_from : List ℕ → ℕ → List ℕ
 words_from line zero = []
 words_from line (suc k) = words_from line k ++ little_endian line (4 * k) ∷ []
 
+-- An instruction register's address and its 32 words.
 abbrev pub instruction_shown : ℕ → Machine → ShownInstruction
-instruction_shown r m = record { address = (m.instructions r).address; words = words_from (m.instructions r).words 32 }
+instruction_shown r m = record { address = (m.instructions r).address; words = words_from (m.instructions r).bytes 32 }
 
+-- The three things that show can be asked for: a data register, an instruction register, and all other fields.
 unfoldable pub show_data : ℕ → Flat → Called ShownData
 show_data r = when_warm (of_register r (data_shown r))
 
@@ -197,3 +207,7 @@ flush = when_warm (λ f. answered (touched_lines f.machine.data_registers) (with
 -- Halt flushes and leaves the machine cold.
 unfoldable pub halt : Flat → Called ℕ
 halt = when_warm (λ f. answered (touched_lines f.machine.data_registers) (cold (flushed f.machine.data_registers).backing))
+
+-- A call may be handed another store than the calls before it.
+unfoldable pub on_store : Meaning → Flat → Flat
+on_store m f = if f.warm then with_machine (with_data (handed m f.machine.data_registers) f.machine) f else cold m

@@ -3,7 +3,7 @@ use Rattle.std.specs.Prelude.{ℕ, ◌/◌, ◌%◌, Bool, true, false, if◌the
 use Rattle.word.specs.Types.{width}
 use Rattle.line.specs.Elements.{element, put}
 use Rattle.store.specs.Meaning.{Meaning, with_line}
-use Rattle.flat.specs.Registers.{zeros, is_zero, line_of, shared, at}
+use Rattle.flat.specs.Registers.{zeros, is_zero, line_of, shared, named, at}
 use Rattle.flat.specs.declared.registers.DataRegister.{DataRegister}
 
 -- Each data register has an address and a type. Memory has the bytes of each line; the backing copy is what the store holds; a line that was written since it last went to the backing copy is touched.
@@ -18,8 +18,8 @@ unfoldable pub given : Meaning → ℕ → List ℕ
 given m n = if nat_lt n m.size then m.line n else zeros
 
 -- The backing copy once it was sent a line. A line that it will not take is lost.
-unfoldable pub taken : Meaning → ℕ → List ℕ → Meaning
-taken m n bytes = if m.canwrite n then with_line m n bytes else m
+unfoldable pub accepted : Meaning → ℕ → List ℕ → Meaning
+accepted m n bytes = if m.canwrite n then with_line m n bytes else m
 
 -- The addresses of the data registers, and the line that one names.
 abbrev pub addresses : Data → ℕ → ℕ
@@ -42,7 +42,7 @@ shown_element d r = element (d.registers r).kind (shown d r) (place (d.registers
 
 -- A line that is written is touched.
 abbrev pub written : ℕ → List ℕ → Data → Data
-written n bytes d = record { registers = d.registers; memory = at d.memory n bytes; touched = at d.touched n true; backing = d.backing }
+written n bytes d = record d { memory = at d.memory n bytes; touched = at d.touched n true }
 
 -- Writing a register's line. With a zero register nothing is written.
 unfoldable pub write : ℕ → List ℕ → Data → Data
@@ -54,11 +54,11 @@ write_element r z d = write r (put (width (d.registers r).kind) (shown d r) (pla
 
 -- A line goes to the backing copy, and its mark is cleared.
 unfoldable pub sent_back : ℕ → Data → Data
-sent_back n d = record { registers = d.registers; memory = d.memory; touched = at d.touched n false; backing = taken d.backing n (d.memory n) }
+sent_back n d = record d { touched = at d.touched n false; backing = accepted d.backing n (d.memory n) }
 
--- Of a line that no data register names, memory holds what the backing copy gives. (That is what memory held before, but where the backing copy would not take a touched line, or is another than the line came from.)
+-- Of a line that no data register names, memory holds what the backing copy gives. (Memory held that already, unless the store is another than boot's.)
 unfoldable pub let_go : ℕ → Data → Data
-let_go n d = record { registers = d.registers; memory = at d.memory n (given d.backing n); touched = d.touched; backing = d.backing }
+let_go n d = record d { memory = at d.memory n (given d.backing n) }
 
 -- The last data register leaves the line n: a touched line goes to the backing copy.
 unfoldable pub left : ℕ → Data → Data
@@ -70,7 +70,7 @@ leaves r address d = not (is_zero r) && not (line d r == line_of address) && not
 
 -- Register r gets an address and a type.
 abbrev pub placed : ℕ → DataRegister → Data → Data
-placed r to d = record { registers = at d.registers r to; memory = d.memory; touched = d.touched; backing = d.backing }
+placed r to d = record d { registers = at d.registers r to }
 
 -- Register r moves to an address and a type; if it is its line's last and goes to another, it leaves the line. A zero register never changes.
 unfoldable pub move : ℕ → DataRegister → Data → Data
@@ -82,10 +82,8 @@ sent r address d = if leaves r address d && d.touched (line d r) then Some (line
 
 -- Every touched line goes to the backing copy, and its mark is cleared.
 unfoldable pub flushed : Data → Data
-flushed d =
-    record {
-      registers = d.registers;
-      memory = d.memory;
-      touched = λ n. false;
-      backing = record { size = d.backing.size; line = λ n. if d.touched n && d.backing.canwrite n then d.memory n else d.backing.line n; canwrite = d.backing.canwrite; kept = d.backing.kept };
-    }
+flushed d = record d { touched = λ n. false; backing = record d.backing { line = λ n. if d.touched n && d.backing.canwrite n then d.memory n else d.backing.line n } }
+
+-- Another store is handed to the machine: the backing copy is its lines. A line that a data register names keeps its bytes in memory, and its mark; memory's other lines are those that the new store gives.
+unfoldable pub handed : Meaning → Data → Data
+handed m d = record { registers = d.registers; memory = λ n. if named (addresses d) n then d.memory n else given m n; touched = λ n. named (addresses d) n && d.touched n; backing = m }

@@ -15,16 +15,16 @@ pub record Machine : Type 0 where
   pub instructions : ℕ → Instruction
   pub control : Control
 
--- The machine with other data, other instruction registers, or another control.
+-- The machine with other data registers and memory, or with another control.
 abbrev pub with_data : Data → Machine → Machine
-with_data d m = record { data_registers = d; instructions = m.instructions; control = m.control }
+with_data d m = record m { data_registers = d }
 
 abbrev pub with_control : Control → Machine → Machine
-with_control c m = record { data_registers = m.data_registers; instructions = m.instructions; control = c }
+with_control c m = record m { control = c }
 
 -- Instruction register r goes to an address.
 abbrev pub go : ℕ → ℕ → Machine → Machine
-go r address m = record { data_registers = m.data_registers; instructions = take r address m.data_registers.memory m.instructions; control = m.control }
+go r address m = record m { instructions = take r address m.data_registers.memory m.instructions }
 
 -- ipc is instruction register 63 of the mode.
 abbrev pub ipc : Machine → ℕ
@@ -35,13 +35,13 @@ ipc_address m = (m.instructions (ipc m)).address
 
 -- The word at ipc is one of the words that ipc took.
 abbrev pub word : Machine → ℕ
-word m = little_endian (m.instructions (ipc m)).words (ipc_address m % 128)
+word m = little_endian (m.instructions (ipc m)).bytes (ipc_address m % 128)
 
 -- Addresses count modulo 2^32.
 abbrev pub wrapped : ℕ → ℕ
 wrapped address = address % 2 ^ 32
 
--- Is this exception the interrupt?
+-- An exception is the interrupt.
 abbrev pub is_interrupt : Exception → Bool
 is_interrupt x = exception_number x == 0
 

@@ -1,5 +1,5 @@
--- What each operation does. All operands are read from the machine m as it was before the step; what is written goes into the machine after, in which ipc has moved on.
-use Rattle.std.specs.Prelude.{ℕ, suc, ◌+◌, ◌*◌, true, if◌then◌else◌, List, [], ◌∷◌, set, get_or, None, Option, ◌==◌, ℤ, pos}
+-- What each operation does. All operands are those of the machine as it was before the step.
+use Rattle.std.specs.Prelude.{ℕ, suc, ◌+◌, true, if◌then◌else◌, List, [], ◌∷◌, set, get_or, None, Option, ◌==◌, ℤ, pos}
 use Rattle.word.specs.declared.element.ElementType.{ElementType}
 use Rattle.word.specs.declared.opcodes.Arith.{Arith}
 use Rattle.word.specs.declared.opcodes.Arith.TheVariants.{Addr}
@@ -8,15 +8,15 @@ use Rattle.word.specs.declared.opcodes.Form.TheVariants.{Scalar, Vector}
 use Rattle.word.specs.declared.opcodes.Special.TheVariants.{Ie, Xct, Swiarg0, Swiarg1, Swiarg2, Swiarg3}
 use Rattle.word.specs.declared.operations.Operation.{Operation}
 use Rattle.word.specs.declared.operations.Operation.TheVariants.{Arith as Arithmetic, Div, Reduce, Load, Store, Dup, Fetch, JumpNotZero, JumpZero, Hand, CopyOut, CopyIn, Swi, Reti, Retx}
-use Rattle.line.specs.Elements.{element}
 use Rattle.line.specs.Reductions.{over, reduced}
 use Rattle.line.specs.Vectors.{line_of as elements, filled}
 use Rattle.scalar.specs.Arithmetic.{computed, quotient, remainder}
 use Rattle.scalar.specs.Casts.{residue}
-use Rattle.flat.specs.Data.{Data, shown, written, write, write_element, move, sent}
+use Rattle.flat.specs.Data.{Data, shown, written, write, write_element, placed, move, sent}
 use Rattle.flat.specs.Instructions.{Instruction, take}
 use Rattle.flat.specs.Machine.{Machine, go, ipc}
-use Rattle.flat.specs.Raising.{reg, kind_of, bytes_of, element_of, address_of, target, fetch_target, is_taken, moves_on, next_address}
+use Rattle.flat.specs.Operands.{reg, kind_of, bytes_of, element_of, element_at, address_of, target, fetch_target, word_place, next_address}
+use Rattle.flat.specs.Raising.{is_taken, moves_on}
 use Rattle.flat.specs.Registers.{zeros, of_mode, is_zero, line_of}
 use Rattle.flat.specs.declared.control.Control.{Control}
 use Rattle.flat.specs.declared.control.Mode.TheVariants.{User}
@@ -26,23 +26,27 @@ abbrev pub first_operand : Arith → ℕ → ℤ → ℤ
 first_operand Addr address x = pos address
 first_operand op address x = x
 
--- Group 0 casts its operands to dA's type and writes the result, cast, to dA's element; the vector form does so at each element place.
-unfoldable pub arithmetic : Arith → Form → ℕ → ℕ → ℕ → Machine → Data → Data
-arithmetic op Scalar a b c m after = write_element (reg m a) (computed op (kind_of m a) (first_operand op (address_of m b) (element_of m b)) (element_of m c)) after
-arithmetic op Vector a b c m after = write (reg m a) (elements (kind_of m a) (λ k. computed op (kind_of m a) (first_operand op (address_of m b) (element (kind_of m b) (bytes_of m b) k)) (element (kind_of m c) (bytes_of m c) k))) after
+-- What group 0 makes of an element x of dB and an element y of dC, both cast to dA's type, and so the result.
+abbrev pub result : Machine → Arith → ℕ → ℕ → ℤ → ℤ → ℤ
+result m op a b x y = computed op (kind_of m a) (first_operand op (address_of m b) x) y
+
+-- It goes to dA's element; the vector form does so at each element place.
+unfoldable pub arithmetic : Arith → Form → ℕ → ℕ → ℕ → Machine → Data
+arithmetic op Scalar a b c m = write_element (reg m a) (result m op a b (element_of m b) (element_of m c)) m.data_registers
+arithmetic op Vector a b c m = write (reg m a) (elements (kind_of m a) (λ k. result m op a b (element_at m b k) (element_at m c k))) m.data_registers
 
 -- Div writes the quotient to dA, and then the remainder, cast, to dD.
-unfoldable pub divide : Form → ℕ → ℕ → ℕ → ℕ → Machine → Data → Data
-divide Scalar a b c d m after =
-    write_element (reg m d) (remainder (kind_of m a) (element_of m b) (element_of m c)) (write_element (reg m a) (quotient (kind_of m a) (element_of m b) (element_of m c)) after)
-divide Vector a b c d m after =
-    let x = λ (k : ℕ). element (kind_of m b) (bytes_of m b) k in
-    let y = λ (k : ℕ). element (kind_of m c) (bytes_of m c) k in
-    write (reg m d) (elements (kind_of m d) (λ k. remainder (kind_of m a) (x k) (y k))) (write (reg m a) (elements (kind_of m a) (λ k. quotient (kind_of m a) (x k) (y k))) after)
+unfoldable pub divide : Form → ℕ → ℕ → ℕ → ℕ → Machine → Data
+divide Scalar a b c d m =
+    let kind = kind_of m a in
+    write_element (reg m d) (remainder kind (element_of m b) (element_of m c)) (write_element (reg m a) (quotient kind (element_of m b) (element_of m c)) m.data_registers)
+divide Vector a b c d m =
+    let kind = kind_of m a in
+    write (reg m d) (elements (kind_of m d) (λ k. remainder kind (element_at m b k) (element_at m c k))) (write (reg m a) (elements kind (λ k. quotient kind (element_at m b k) (element_at m c k))) m.data_registers)
 
 -- Register r gets another type.
 abbrev pub retype : ℕ → ElementType → Data → Data
-retype r kind d = move r (record { address = (d.registers r).address; kind = kind }) d
+retype r kind d = if is_zero r then d else placed r (record { address = (d.registers r).address; kind = kind }) d
 
 -- Store copies dA's old line onto the new one, which is touched, and then does what load does. With d0 nothing is written.
 unfoldable pub copied : ℕ → ℕ → Data → Data
@@ -53,37 +57,37 @@ abbrev pub swiarg : Control → ℕ → List ℕ
 swiarg c n = get_or c.swiargs n zeros
 
 -- What an operation does to the data registers and memory.
-unfoldable pub data_after : Operation → Machine → Data → Data
-data_after (Arithmetic op form a b c) m after = arithmetic op form a b c m after
-data_after (Div form a b c d) m after = divide form a b c d m after
+unfoldable pub data_after : Operation → Machine → Data
+data_after (Arithmetic op form a b c) m = arithmetic op form a b c m
+data_after (Div form a b c d) m = divide form a b c d m
 -- a reduction joins every element of dB's line, each cast to dA's type, into dA's element
-data_after (Reduce op a b) m after = write_element (reg m a) (reduced op (kind_of m a) (kind_of m b) (bytes_of m b)) after
--- load sets dA's address to dB's plus signed i, and its type
-data_after (Load kind a b i) m after = move (reg m a) (record { address = target m b i; kind = kind }) after
-data_after (Store kind a b i) m after = move (reg m a) (record { address = target m b i; kind = kind }) (copied (reg m a) (target m b i) after)
+data_after (Reduce op a b) m = write_element (reg m a) (reduced op (kind_of m a) (kind_of m b) (bytes_of m b)) m.data_registers
+-- load sets dA's address to dB's plus signed i, and its type; store does so after copying
+data_after (Load kind a b i) m = move (reg m a) (record { address = target m b i; kind = kind }) m.data_registers
+data_after (Store kind a b i) m = move (reg m a) (record { address = target m b i; kind = kind }) (copied (reg m a) (target m b i) m.data_registers)
 -- dup casts dB's element to its type, fills dA's line with it and sets dA's type
-data_after (Dup kind a b) m after = retype (reg m a) kind (write (reg m a) (filled kind (element_of m b)) after)
+data_after (Dup kind a b) m = retype (reg m a) kind (write (reg m a) (filled kind (element_of m b)) m.data_registers)
 -- cpy out: ie and xct go, cast, to dA's element; a swiarg is dA's whole line
-data_after (CopyOut Ie a) m after = write_element (reg m a) (pos (if m.control.ie then 1 else 0)) after
-data_after (CopyOut Xct a) m after = write_element (reg m a) (pos m.control.xct) after
-data_after (CopyOut Swiarg0 a) m after = write (reg m a) (swiarg m.control 0) after
-data_after (CopyOut Swiarg1 a) m after = write (reg m a) (swiarg m.control 1) after
-data_after (CopyOut Swiarg2 a) m after = write (reg m a) (swiarg m.control 2) after
-data_after (CopyOut Swiarg3 a) m after = write (reg m a) (swiarg m.control 3) after
-data_after op m after = after
+data_after (CopyOut Ie a) m = write_element (reg m a) (pos (if m.control.ie then 1 else 0)) m.data_registers
+data_after (CopyOut Xct a) m = write_element (reg m a) (pos m.control.xct) m.data_registers
+data_after (CopyOut Swiarg0 a) m = write (reg m a) (swiarg m.control 0) m.data_registers
+data_after (CopyOut Swiarg1 a) m = write (reg m a) (swiarg m.control 1) m.data_registers
+data_after (CopyOut Swiarg2 a) m = write (reg m a) (swiarg m.control 2) m.data_registers
+data_after (CopyOut Swiarg3 a) m = write (reg m a) (swiarg m.control 3) m.data_registers
+data_after op m = m.data_registers
 
--- The word w of the line that instruction register iB names.
-abbrev pub word_place : Machine → ℕ → ℕ → ℕ
-word_place m b w = line_of (m.instructions (reg m b)).address * 128 + 4 * w
+-- Instruction register r goes to word w of the line that iB names.
+abbrev pub put_at : ℕ → ℕ → ℕ → Machine → (ℕ → Instruction) → ℕ → Instruction
+put_at r b w m after = take r (word_place m b w) m.data_registers.memory after
 
 -- What an operation does to the instruction registers, once ipc has moved on where it does.
 unfoldable pub instructions_after : Operation → Machine → (ℕ → Instruction) → ℕ → Instruction
 -- fetch: register a + k takes its line, k rising from 0 to j
-instructions_after (Fetch a b i j) m after = over (λ i' k. take (reg m (a + k)) (fetch_target m b i k) m.data_registers.memory i') after (suc j)
+instructions_after (Fetch a b i j) m after = over (λ held k. take (reg m (a + k)) (fetch_target m b i k) m.data_registers.memory held) after (suc j)
 -- a taken jump puts ipc on iB's line at word w; hand does so to the user's ipc
-instructions_after (JumpNotZero a b w) m after = if is_taken m (JumpNotZero a b w) then take (ipc m) (word_place m b w) m.data_registers.memory after else after
-instructions_after (JumpZero a b w) m after = if is_taken m (JumpZero a b w) then take (ipc m) (word_place m b w) m.data_registers.memory after else after
-instructions_after (Hand b w) m after = take (of_mode User 63) (word_place m b w) m.data_registers.memory after
+instructions_after (JumpNotZero a b w) m after = if is_taken m (JumpNotZero a b w) then put_at (ipc m) b w m after else after
+instructions_after (JumpZero a b w) m after = if is_taken m (JumpZero a b w) then put_at (ipc m) b w m after else after
+instructions_after (Hand b w) m after = put_at (of_mode User 63) b w m after
 instructions_after op m after = after
 
 -- What an operation does to the rest.
@@ -110,7 +114,7 @@ moved_on op m = if moves_on m op then go (ipc m) (next_address m) m else m
 unfoldable pub carried_out : Operation → Machine → Machine
 carried_out op m =
     record {
-      data_registers = data_after op m m.data_registers;
+      data_registers = data_after op m;
       instructions = instructions_after op m (moved_on op m).instructions;
       control = control_after op m;
     }
@@ -118,5 +122,5 @@ carried_out op m =
 -- The line that an operation sends to the backing copy: only load and store move a data register.
 unfoldable pub sent_by : Operation → Machine → Option ℕ
 sent_by (Load kind a b i) m = sent (reg m a) (target m b i) m.data_registers
-sent_by (Store kind a b i) m = sent (reg m a) (target m b i) (copied (reg m a) (target m b i) m.data_registers)
+sent_by (Store kind a b i) m = sent (reg m a) (target m b i) m.data_registers
 sent_by op m = None

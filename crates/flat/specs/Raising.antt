@@ -1,45 +1,27 @@
 -- Which exception the machine enters instead of carrying out an operation: the first that applies, in the order of the rules.
-use Rattle.std.specs.Prelude.{ℕ, suc, ◌+◌, ◌*◌, ◌%◌, Bool, false, if◌then◌else◌, not, ◌&&◌, ◌||◌, List, [], ◌∷◌, Some, None, Option, ◌==◌, nat_lt, ℤ, pos, ◌+ℤ◌, ◌*ℤ◌, unsigned_abs}
+use Rattle.std.specs.Prelude.{ℕ, suc, ◌%◌, Bool, false, if◌then◌else◌, not, ◌&&◌, ◌||◌, List, [], ◌∷◌, Some, None, Option, ◌==◌, nat_lt, unsigned_abs}
 use Rattle.std.specs.List.{list_any}
 use Rattle.std.specs.Option.{option_or}
 use Rattle.word.specs.Types.{width}
-use Rattle.word.specs.declared.element.ElementType.{ElementType}
 use Rattle.word.specs.declared.opcodes.Arith.{Arith}
-use Rattle.word.specs.declared.opcodes.Arith.TheVariants.{Add, Sub, Slt, Mul, And, Or, Xor, Shl, Shr, Rol, Ror, Addr}
+use Rattle.word.specs.declared.opcodes.Arith.TheVariants.{Slt, Mul, Shl, Shr, Rol, Ror, Addr}
 use Rattle.word.specs.declared.opcodes.Reduction.{Reduction}
-use Rattle.word.specs.declared.opcodes.Reduction.TheVariants.{Add as Sum, Mul as Product, Max, Min, And as Meet}
+use Rattle.word.specs.declared.opcodes.Reduction.TheVariants.{Mul as Product, Max, Min}
 use Rattle.word.specs.declared.opcodes.Form.TheVariants.{Scalar, Vector}
 use Rattle.word.specs.declared.operations.Operation.{Operation}
 use Rattle.word.specs.declared.operations.Operation.TheVariants.{Arith as Arithmetic, Div, Reduce, Load, Store, Dup, Fetch, JumpNotZero, JumpZero, Hand, CopyOut, CopyIn, Reti, Retx}
 use Rattle.line.specs.Dividing.{somewhere}
-use Rattle.line.specs.Elements.{count, element}
+use Rattle.line.specs.Elements.{count}
 use Rattle.scalar.specs.Arithmetic.{casts_to_zero}
-use Rattle.scalar.specs.Casts.{residue}
-use Rattle.flat.specs.Data.{shown, shown_element, line}
+use Rattle.flat.specs.Data.{line}
 use Rattle.flat.specs.Instructions.{addresses}
-use Rattle.flat.specs.Machine.{Machine, ipc_address, wrapped}
-use Rattle.flat.specs.Registers.{of_mode, is_zero, line_of, named}
+use Rattle.flat.specs.Machine.{Machine, ipc_address}
+use Rattle.flat.specs.Operands.{reg, kind_of, element_of, element_at, target, fetch_target, next_address}
+use Rattle.flat.specs.Registers.{is_zero, line_of, named}
 use Rattle.flat.specs.declared.control.Mode.{Mode}
 use Rattle.flat.specs.declared.control.Mode.TheVariants.{User, Supervisor}
 use Rattle.flat.specs.declared.exception.Exception.{Exception}
 use Rattle.flat.specs.declared.exception.Exception.TheVariants.{ZeroDivisor, Undefined, Wide, UserReti, UserRetx, UserCopyOut, UserCopyIn, NextLine, MissingLine, FixedLine}
-
--- The register that a field of the word names.
-abbrev pub reg : Machine → ℕ → ℕ
-reg m field = of_mode m.control.mode field
-
--- The type of the data register that a field names, its line, its element, and its address.
-abbrev pub kind_of : Machine → ℕ → ElementType
-kind_of m field = (m.data_registers.registers (reg m field)).kind
-
-abbrev pub bytes_of : Machine → ℕ → List ℕ
-bytes_of m field = shown m.data_registers (reg m field)
-
-abbrev pub element_of : Machine → ℕ → ℤ
-element_of m field = shown_element m.data_registers (reg m field)
-
-abbrev pub address_of : Machine → ℕ → ℕ
-address_of m field = (m.data_registers.registers (reg m field)).address
 
 -- Hand, reti, retx and cpy are the supervisor's. In user mode hand is undefined, and the others enter exceptions of their own.
 unfoldable pub reserved : Operation → Option Exception
@@ -50,17 +32,13 @@ reserved (CopyOut from a) = Some (UserCopyOut from)
 reserved (CopyIn to a) = Some (UserCopyIn to)
 reserved op = None
 
+-- The exception of an operation that is the supervisor's, in user mode.
 abbrev pub forbidden : Mode → Operation → Option Exception
 forbidden User op = reserved op
 forbidden Supervisor op = None
 
 -- The fields of the registers that must not be 64 bits wide: dA, dB and dC in slt, mul, shifts and rotates; dA and dC in addr; dC in div; dA in mul.r, max.r and min.r.
 abbrev pub narrow_arith : Arith → ℕ → ℕ → ℕ → List ℕ
-narrow_arith Add a b c = []
-narrow_arith Sub a b c = []
-narrow_arith And a b c = []
-narrow_arith Or a b c = []
-narrow_arith Xor a b c = []
 narrow_arith Slt a b c = a ∷ b ∷ c ∷ []
 narrow_arith Mul a b c = a ∷ b ∷ c ∷ []
 narrow_arith Shl a b c = a ∷ b ∷ c ∷ []
@@ -68,13 +46,13 @@ narrow_arith Shr a b c = a ∷ b ∷ c ∷ []
 narrow_arith Rol a b c = a ∷ b ∷ c ∷ []
 narrow_arith Ror a b c = a ∷ b ∷ c ∷ []
 narrow_arith Addr a b c = a ∷ c ∷ []
+narrow_arith op a b c = []
 
 abbrev pub narrow_reduction : Reduction → ℕ → List ℕ
-narrow_reduction Sum a = []
 narrow_reduction Product a = a ∷ []
 narrow_reduction Max a = a ∷ []
 narrow_reduction Min a = a ∷ []
-narrow_reduction Meet a = []
+narrow_reduction op a = []
 
 unfoldable pub narrow : Operation → List ℕ
 narrow (Arithmetic op form a b c) = narrow_arith op a b c
@@ -82,6 +60,7 @@ narrow (Div form a b c d) = c ∷ []
 narrow (Reduce op a b) = narrow_reduction op a
 narrow op = []
 
+-- One of them is 64 bits wide.
 unfoldable pub too_wide : Machine → Operation → Bool
 too_wide m op = list_any (λ field. width (kind_of m field) == 8) (narrow op)
 
@@ -90,6 +69,7 @@ abbrev pub even_arith : Arith → ℕ → ℕ → ℕ → List ℕ
 even_arith Addr a b c = a ∷ c ∷ []
 even_arith op a b c = a ∷ b ∷ c ∷ []
 
+-- They matter in the vector form alone.
 unfoldable pub even : Operation → List ℕ
 even (Arithmetic op Vector a b c) = even_arith op a b c
 even (Div Vector a b c d) = a ∷ b ∷ c ∷ d ∷ []
@@ -100,16 +80,9 @@ unfoldable pub uneven_widths : Machine → List ℕ → Bool
 uneven_widths m [] = false
 uneven_widths m (a ∷ fields) = list_any (λ field. not (width (kind_of m field) == width (kind_of m a))) fields
 
+-- The widths of a vector form are unequal.
 abbrev pub uneven : Machine → Operation → Bool
 uneven m op = uneven_widths m (even op)
-
--- Where load and store go: dB's address plus signed i.
-abbrev pub target : Machine → ℕ → ℤ → ℕ
-target m b i = residue 32 (pos (address_of m b) +ℤ i)
-
--- Where fetch starts: iB's address plus 4 times signed i. Register a + k goes 128 k further.
-abbrev pub fetch_target : Machine → ℕ → ℤ → ℕ → ℕ
-fetch_target m b i k = wrapped (residue 32 (pos (m.instructions (reg m b)).address +ℤ pos 4 *ℤ i) + 128 * k)
 
 -- The line of an address is not below the size.
 abbrev pub is_missing : Machine → ℕ → Bool
@@ -126,7 +99,7 @@ missing m op = false
 abbrev pub writes_fixed : Machine → ℕ → ℕ → Bool
 writes_fixed m r n = not (is_zero r) && not (m.data_registers.backing.canwrite n)
 
--- It writes its own line.
+-- The register of a field writes its own line, which cannot be written.
 abbrev pub own_fixed : Machine → ℕ → Bool
 own_fixed m field = writes_fixed m (reg m field) (line m.data_registers (reg m field))
 
@@ -143,24 +116,20 @@ fixed m op = false
 -- A divisor that is zero after its cast to dA's type; in the vector form at some element place.
 unfoldable pub by_zero : Machine → Operation → Bool
 by_zero m (Div Scalar a b c d) = casts_to_zero (kind_of m a) (element_of m c)
-by_zero m (Div Vector a b c d) = somewhere (λ k. casts_to_zero (kind_of m a) (element (kind_of m c) (bytes_of m c) k)) (count (kind_of m a))
+by_zero m (Div Vector a b c d) = somewhere (λ k. casts_to_zero (kind_of m a) (element_at m c k)) (count (kind_of m a))
 by_zero m op = false
 
--- A jump tests dA's element.
+-- A jump if not zero is taken when dA's element is not zero, a jump if zero when it is.
 unfoldable pub is_taken : Machine → Operation → Bool
 is_taken m (JumpNotZero a b w) = not (unsigned_abs (element_of m a) == 0)
 is_taken m (JumpZero a b w) = unsigned_abs (element_of m a) == 0
 is_taken m op = false
 
--- A taken jump, reti and retx leave ipc to themselves; after every other operation it goes to the next word.
+-- ipc goes to the next word after every operation but a taken jump, reti and retx.
 unfoldable pub moves_on : Machine → Operation → Bool
 moves_on m Reti = false
 moves_on m Retx = false
 moves_on m op = not (is_taken m op)
-
--- The next word is 4 bytes further.
-abbrev pub next_address : Machine → ℕ
-next_address m = wrapped (ipc_address m + 4)
 
 -- ipc would pass word 31, and no instruction register names the next line.
 unfoldable pub no_next_line : Machine → Operation → Bool

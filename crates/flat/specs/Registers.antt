@@ -17,7 +17,7 @@ is_zero r = (r == 0) || (r == 64)
 abbrev pub is_real : ℕ → Bool
 is_real r = nat_lt r 128 && not (is_zero r)
 
--- The 128 zero bytes that a zero register shows.
+-- 128 zero bytes.
 unfoldable pub zeros : List ℕ
 zeros = replicate 128 0
 

@@ -38,11 +38,12 @@ unfoldable pub obeyed : Option Operation → Machine → AfterStep
 obeyed None m = enters Undefined m
 obeyed (Some op) m = obeyed_unless (raised m op) op m
 
--- In user mode with ie set and the pin up the interrupt comes before anything else.
+-- Whether the mode is user mode.
 abbrev pub is_user : Mode → Bool
 is_user User = true
 is_user Supervisor = false
 
+-- In user mode with ie set and the pin up the interrupt comes before anything else.
 abbrev pub interrupted : Machine → Bool
 interrupted m = is_user m.control.mode && m.control.ie && m.control.pin
 

@@ -11,7 +11,7 @@ pub struct Control {
     pub mode: Mode,
     // whether interrupts may enter
     pub ie: bool,
-    // the number of the last exception entered
+    // the exception type: set by every entry, and by cpy
     pub xct: u32,
     // what a software interrupt hands over
     pub swiargs: [[u8; 128]; 4],

@@ -11,7 +11,7 @@ pub enum Exception {
     Interrupt,
     // a divisor that is zero
     ZeroDivisor,
-    // an undefined word, or one that has no meaning where it stands
+    // an undefined word, hand in user mode, or a vector form over types of unequal width
     Undefined,
     // elements of 64 bits where an operation takes none
     Wide,

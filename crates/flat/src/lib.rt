@@ -1,7 +1,7 @@
 // The flat machine: what the engine is proved to be. Its definitions stand in specs/, from `Registers` up
 // to `Calls`; they are what a reader must believe. The code here is only the words that they and the
 // engine share: modes, exceptions, what a step answers, what is recorded and shown. It uses the
-// refusals, words, arithmetic, lines, and what stores mean.
+// refusals, words and their reading, arithmetic, lines, what stores mean, and how marks are counted.
 #![tactic(auto)]
 
 mod control;

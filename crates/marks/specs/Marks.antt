@@ -11,7 +11,7 @@ none t = false
 unfoldable pub with_mark : (ℕ → Bool) → ℕ → Bool → ℕ → Bool
 with_mark m t b u = if u == t then b else m u
 
--- How many of the tags below n are marked.
+-- How many numbers below n pass a test: of the tags below n, how many are marked.
 unfoldable pub how_many : (ℕ → Bool) → ℕ → ℕ
 how_many m zero = 0
 how_many m (suc n) = how_many m n + (if m n then 1 else 0)

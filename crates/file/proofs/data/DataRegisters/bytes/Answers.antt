@@ -11,5 +11,5 @@ unfolding stands
 returns c m =
     let d = c.args.self.now in
     c.bytes.ensures
-      ∙ (ap (names d.bank).bytes c.tag.ensures
-      ∙ shows (names d.bank) (λ (q : ℕ). get_or d.kinds q U8) (marked d.marks) m c.args.register.number c.args.register.inside c.sound.ensures)
+    ∙ (ap (names d.bank).bytes c.tag.ensures
+    ∙ shows (names d.bank) (λ (q : ℕ). get_or d.kinds q U8) (marked d.marks) m c.args.register.number c.args.register.inside c.sound.ensures)

@@ -1,10 +1,9 @@
-use Rattle.std.proofs.Common.{◌≡◌, ℕ, ◌∙◌, ap, sym, true, false, get_or, arith}
+use Rattle.std.proofs.Common.{◌∙◌, sym, get_or}
 use Rattle.word.specs.declared.element.ElementType.TheVariants.{U8}
 use Rattle.store.specs.Meaning.{most}
-use Rattle.flat.specs.Data.{flushed}
-use Rattle.marks.specs.Marks.{marked, how_many}
+use Rattle.marks.specs.Marks.{marked}
 use Rattle.tags.specs.Meaning.{names}
-use Rattle.file.specs.Data.{stands, IsTouched}
+use Rattle.file.specs.Data.{stands}
 use Rattle.file.proofs.Flushing.{fewer, flushed_on, flushed_unmarked, as_many}
 use Rattle.marks.proofs.Words.{marked_past}
 use Rattle.file.specs.Standing.{data_of}

@@ -1,4 +1,4 @@
-use Rattle.std.proofs.Common.{◌≡◌, ℕ, ◌/◌, ◌<◌, ◌∙◌, ap, sym, subst, true, false, get_or, length, arith}
+use Rattle.std.proofs.Common.{◌≡◌, ℕ, ◌<◌, ◌∙◌, ap, sym, subst, true, false, get_or, length}
 use Rattle.std.proofs.lemmas.List.{length-set}
 use Rattle.word.specs.declared.element.ElementType.TheVariants.{U8}
 use Rattle.store.specs.Meaning.{Meaning}
@@ -39,7 +39,7 @@ returns-clause-data g c =
     let a = c.args.to.address in
     let long : r < length new.kinds = subst (λ n. r < n) (sym new.typed) c.args.register.inside in
     go_stands (names new.bank) (names c.go.new.self) new.kinds (marked old.marks) (marked new.marks) m (g.S.Store.meaning c.leave-sent.new.store) r c.args.to c.args.register.inside (sym c.if-is_zero.ensures) c.sound.ensures c.from.result (c.from.ensures ∙ c.number.ensures) long (l.data ∙ ap (sends r a) q) c.go.ensures new.quiet (clean old new m r a l.bank l.kinds l.clean)
-      ∙ ap (move r c.args.to) (sym q)
+    ∙ ap (move r c.args.to) (sym q)
 
 pub invariant_of-self : goal.invariant_of-self
 unfolding stands

@@ -24,4 +24,4 @@ returns g c =
     let r = c.args.register.number in
     let kinds = λ (q : ℕ). get_or d.kinds q U8 in
     fun_ext (λ m. write_stands (names d.bank) (names c.change.new.self) kinds (marked d.marks) (marked c.insert.new.self) r c.number.result _ c.args.register.inside (sym c.if-is_zero.ensures) c.sound.ensures (c.number.ensures ∙ c.tag-tag.ensures) c.change.ensures c.insert.ensures m
-      ∙ ap (λ (b : List ℕ). write r (g.C.Change.changed c.args.change.now b) (data_of (names d.bank) kinds (marked d.marks) m)) (shows (names d.bank) kinds (marked d.marks) m r c.args.register.inside c.sound.ensures))
+    ∙ ap (λ (b : List ℕ). write r (g.C.Change.changed c.args.change.now b) (data_of (names d.bank) kinds (marked d.marks) m)) (shows (names d.bank) kinds (marked d.marks) m r c.args.register.inside c.sound.ensures))

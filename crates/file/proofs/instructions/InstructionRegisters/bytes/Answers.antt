@@ -3,7 +3,7 @@ use Rattle.tags.specs.Meaning.{names}
 use Rattle.file.specs.Instructions.{stands}
 use Rattle.file.proofs.Tags.{carries}
 use Rattle.file.proofs.Taking.{words_are}
-use Rattle.file.proofs.instructions.InstructionRegisters.words.Goals as goal
+use Rattle.file.proofs.instructions.InstructionRegisters.bytes.Goals as goal
 
 pub returns : goal.returns
 unfolding stands

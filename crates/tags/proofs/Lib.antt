@@ -1,0 +1,11 @@
+pub mod Counts
+pub mod Finds
+pub mod Holding
+pub mod All
+pub mod Steps
+pub mod Starting
+pub mod Moves
+pub mod Tests
+pub mod Showing
+pub mod Banks
+pub mod Copies

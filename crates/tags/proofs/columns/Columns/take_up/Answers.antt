@@ -1,0 +1,12 @@
+use Rattle.std.proofs.Common.{rules, arith}
+use Rattle.tags.proofs.Holding.{held}
+use Rattle.tags.proofs.Steps.{taken, small-set}
+use Rattle.tags.proofs.columns.Columns.take_up.Goals as goal
+
+pub invariant_of-self : goal.invariant_of-self
+invariant_of-self c =
+    let s = c.args.self.now in
+    let r = c.requires in
+    let h = held s in
+    let k = taken c.args.r c.args.tag c.args.address h r.register r.real r.some r.bare r.tags (search rules) s.small r.only r.ready in
+    record { sized = (k.addressed, search rules, search rules, search rules); small = small-set s.addresses c.args.r c.args.address (omega (arith, h.addressed)) (search rules) s.small; whole = s.whole; no_tag = k.no_tag; no_line = (k.nameless, grind (arith, k.uncounted), s.no_line.2); linked = k.linked; counted = λ u pu hu. grind (arith, k.counted u pu hu); free = λ u pu hu none. grind (arith, k.free u pu hu); apart = k.apart }
