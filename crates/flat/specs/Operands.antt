@@ -1,5 +1,5 @@
 -- What an operation reads: the registers that its fields name, and the addresses that it makes of them.
-use Rattle.std.specs.Prelude.{ℕ, ◌+◌, ◌*◌, ℤ, pos, ◌+ℤ◌, ◌*ℤ◌, List}
+use Rattle.std.specs.Prelude.{ℕ, ◌+◌, ◌*◌, ◌%◌, ℤ, pos, ◌+ℤ◌, ◌*ℤ◌, List}
 use Rattle.word.specs.declared.element.ElementType.{ElementType}
 use Rattle.line.specs.Elements.{element}
 use Rattle.scalar.specs.Casts.{residue}
@@ -7,9 +7,9 @@ use Rattle.flat.specs.Data.{shown, shown_element}
 use Rattle.flat.specs.Machine.{Machine, ipc_address, wrapped}
 use Rattle.flat.specs.Registers.{of_mode, line_of}
 
--- The register that a field of the word names.
+-- The register that a field of the word names. A field has 6 bits.
 abbrev pub reg : Machine → ℕ → ℕ
-reg m field = of_mode m.control.mode field
+reg m field = of_mode m.control.mode (field % 64)
 
 -- Of the data register that a field names: its type, its address, its line's bytes, its element, and element k of its line.
 abbrev pub kind_of : Machine → ℕ → ElementType
@@ -35,9 +35,9 @@ target m b i = residue 32 (pos (address_of m b) +ℤ i)
 abbrev pub fetch_target : Machine → ℕ → ℤ → ℕ → ℕ
 fetch_target m b i k = residue 32 (pos (m.instructions (reg m b)).address +ℤ pos 4 *ℤ i +ℤ pos (128 * k))
 
--- The word w of the line that instruction register iB names.
+-- The word w, of 5 bits, of the line that instruction register iB names.
 abbrev pub word_place : Machine → ℕ → ℕ → ℕ
-word_place m b w = line_of (m.instructions (reg m b)).address * 128 + 4 * w
+word_place m b w = line_of (m.instructions (reg m b)).address * 128 + 4 * (w % 32)
 
 -- The next word is 4 bytes further.
 abbrev pub next_address : Machine → ℕ
