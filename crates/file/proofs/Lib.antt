@@ -8,3 +8,4 @@ pub mod Sending
 pub mod Taking
 pub mod Ending
 pub mod Handing
+pub mod Carrying

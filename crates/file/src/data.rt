@@ -25,6 +25,7 @@ pub struct DataRegisters {
 impl DataRegisters {
     ghost use Rattle.std.specs.Prelude.{◌&&◌, true, false, ◌/◌, Some, option_map, get_or};
     ghost use Rattle.flat.specs.Calls.{started_data, touched_lines};
+    ghost use Rattle.flat.specs.Operations.{copied};
     ghost use Rattle.flat.specs.Data.{leaves, move, sent, sent_back, shown, write, flushed, handed};
     ghost use Rattle.flat.specs.Registers.{is_zero};
     ghost use Rattle.marks.specs.Marks.{with_mark};
@@ -153,6 +154,27 @@ impl DataRegisters {
         Some(line)
     }
 
+    // Moves a register, as `go` promises. The bytes of the tag that it carried are still there.
+    fn relink<S: Store>(
+        &mut self,
+        register: Register,
+        to: DataRegister,
+        store: &mut S,
+    ) -> Option<u32>
+        ensures data { stands self.new (S.meaning store.new) ≡ move register.number to (stands self.old (S.meaning store.old)) }
+        ensures sent { result ≡ sent register.number to.address (stands self.old (S.meaning store.old)) }
+        ensures bytes { (names self.new.bank).bytes (tag_of (names self.old.bank) register.number) ≡ (names self.old.bank).bytes (tag_of (names self.old.bank) register.number) }
+    {
+        if register.is_zero() {
+            return None;
+        }
+        let sent = self.leave(register, to.address, store);
+        self.bank.sound();
+        self.bank.go(register, to.address, &Backing { store });
+        self.kinds[usize::from(register.number())] = to.kind;
+        sent
+    }
+
     // Moves a register to an address and a type, and answers the line that was sent back, if any.
     pub fn go<S: Store>(
         &mut self,
@@ -163,13 +185,39 @@ impl DataRegisters {
         ensures data { stands self.new (S.meaning store.new) ≡ move register.number to (stands self.old (S.meaning store.old)) }
         ensures sent { result ≡ sent register.number to.address (stands self.old (S.meaning store.old)) }
     {
+        self.relink(register, to, store)
+    }
+
+    // Gives a register's line the bytes of a tag.
+    fn bring(&mut self, from: Tag, register: Register)
+        requires { is_zero register.number ≡ false }
+        ensures { stands self.new ≡ (λ m. write register.number ((names self.old.bank).bytes from.number) (stands self.old m)) }
+    {
+        self.bank.sound();
+        let tag = self.tag(register);
+        self.bank.copy_line(from, register);
+        self.marks.insert(tag.number());
+    }
+
+    // Copies a register's line onto the line of an address, moves the register there, with a type, and answers
+    // the line that was sent back, if any. (The line is copied once the register is there: its old tag's bytes
+    // are still those that it showed.)
+    pub fn carry<S: Store>(
+        &mut self,
+        register: Register,
+        to: DataRegister,
+        store: &mut S,
+    ) -> Option<u32>
+        ensures data { stands self.new (S.meaning store.new) ≡ move register.number to (copied register.number to.address (stands self.old (S.meaning store.old))) }
+        ensures sent { result ≡ sent register.number to.address (stands self.old (S.meaning store.old)) }
+    {
         if register.is_zero() {
             return None;
         }
-        let sent = self.leave(register, to.address, store);
+        let from = self.tag(register);
         self.bank.sound();
-        self.bank.go(register, to.address, &Backing { store });
-        self.kinds[usize::from(register.number())] = to.kind;
+        let sent = self.relink(register, to, store);
+        self.bring(from, register);
         sent
     }
 

@@ -15,6 +15,7 @@ use Rattle.flat.specs.declared.control.Control.{Control}
 use Rattle.flat.specs.declared.control.Mode.TheVariants.{Supervisor}
 use Rattle.flat.specs.declared.exception.Stepped.{Stepped}
 use Rattle.flat.specs.declared.exception.Stepped.TheVariants.{Done, Entered}
+use Rattle.flat.specs.declared.records.Ran.{Ran}
 use Rattle.flat.specs.declared.records.StepRecord.{StepRecord}
 use Rattle.flat.specs.declared.shown.ShownData.{ShownData}
 use Rattle.flat.specs.declared.shown.ShownInstruction.{ShownInstruction}
@@ -80,11 +81,6 @@ step_call = when_warm (λ f. answered (step f.machine).answer (with_machine (ste
 -- The most steps that a call may be asked for.
 abbrev pub most_steps : ℕ
 most_steps = 1000000
-
--- The steps made, and the last answer, which is done where no step was made.
-pub record Ran : Type 0 where
-  pub steps : ℕ
-  pub last : Stepped
 
 -- Steps made one after the other: the machine, how many they were, what the last answered, a record of each, and the lines that they sent to the backing copy, in order.
 pub record Steps : Type 0 where

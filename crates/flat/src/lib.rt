@@ -12,6 +12,6 @@ mod shown;
 
 pub use control::{Control, Mode};
 pub use exception::{Exception, Stepped};
-pub use records::StepRecord;
+pub use records::{Ran, StepRecord};
 pub use registers::DataRegister;
 pub use shown::{ShownData, ShownInstruction};

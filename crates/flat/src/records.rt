@@ -1,4 +1,4 @@
-// What a trace records of a step.
+// What a run answers, and what a trace records of a step.
 use crate::control::Mode;
 use crate::exception::Stepped;
 
@@ -9,4 +9,11 @@ pub struct StepRecord {
     pub address: u32,
     pub word: u32,
     pub answer: Stepped,
+}
+
+// What a run answers: the steps made, and the last answer, which is done where no step was made.
+#[derive(Clone, Copy, PartialEq, Eq, Debug)]
+pub struct Ran {
+    pub steps: u32,
+    pub last: Stepped,
 }

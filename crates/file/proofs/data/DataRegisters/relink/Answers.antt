@@ -10,7 +10,8 @@ use Rattle.file.specs.Data.{stands, sends}
 use Rattle.file.specs.Standing.{data_of}
 use Rattle.file.specs.declared.data.DataRegisters.{DataRegisters}
 use Rattle.file.proofs.Sending.{stays_zero, sends_zero, go_stands, go_quiet}
-use Rattle.file.proofs.data.DataRegisters.go.Goals as goal
+use Rattle.file.proofs.Carrying.{kept_bytes}
+use Rattle.file.proofs.data.DataRegisters.relink.Goals as goal
 
 pub returns-then-is_zero-clause-data : goal.returns-then-is_zero-clause-data
 returns-then-is_zero-clause-data g c = stays_zero _ _ _ (sym c.if-is_zero.ensures)
@@ -55,3 +56,8 @@ invariant_of-self g c =
       quiet = go_quiet (names new.bank) (names c.go.new.self) new.kinds (marked old.marks) (marked new.marks) m (g.S.Store.meaning c.leave-sent.new.store) r c.args.to c.args.register.inside (sym c.if-is_zero.ensures) c.sound.ensures c.from.result (c.from.ensures ∙ c.number.ensures) long c.go.ensures new.quiet (clean old new m r a l.bank l.kinds l.clean);
       typed = length-set _ _ _ ∙ new.typed;
     }
+
+pub returns-clause-bytes : goal.returns-clause-bytes
+returns-clause-bytes g c =
+    let r = c.args.register.number in
+    subst (λ b. (names c.go.new.self).bytes (tag_of (names b) r) ≡ (names b).bytes (tag_of (names b) r)) c.leave-sent.ensures.bank (kept_bytes _ _ _ _ _ c.args.register.inside (sym c.if-is_zero.ensures) c.sound.ensures c.go.ensures)

@@ -1,0 +1,30 @@
+use Rattle.std.proofs.Common.{ℕ, List, ◌∙◌, ap, sym, get_or}
+use Rattle.word.specs.declared.element.ElementType.TheVariants.{U8}
+use Rattle.flat.specs.Data.{Data, move, write}
+use Rattle.marks.specs.Marks.{marked}
+use Rattle.store.specs.Meaning.{Meaning}
+use Rattle.tags.specs.Meaning.{names}
+use Rattle.file.specs.Data.{stands}
+use Rattle.file.proofs.Carrying.{carried, carried_zero}
+use Rattle.file.proofs.Sending.{sends_zero}
+use Rattle.file.proofs.Writing.{shows}
+use Rattle.file.proofs.data.DataRegisters.carry.Goals as goal
+
+pub returns-then-is_zero-clause-data : goal.returns-then-is_zero-clause-data
+returns-then-is_zero-clause-data g c = carried_zero _ _ _ (sym c.if-is_zero.ensures)
+
+pub returns-then-is_zero-clause-sent : goal.returns-then-is_zero-clause-sent
+returns-then-is_zero-clause-sent g c = sends_zero _ _ _ (sym c.if-is_zero.ensures)
+
+pub returns-clause-data : goal.returns-clause-data
+unfolding stands
+returns-clause-data g c =
+    let d = c.args.self.now in
+    let r = c.args.register.number in
+    let m = g.S.Store.meaning c.args.store.now in
+    let after = g.S.Store.meaning c.relink-sent.new.store in
+    let l = c.relink-sent.ensures in
+    ap (λ (f : Meaning → Data). f after) c.bring.ensures
+    ∙ (ap (write r _) l.data
+    ∙ (ap (λ (b : List ℕ). write r b (move r c.args.to (stands d m))) (ap (names c.relink-sent.new.self.bank).bytes c.tag-from.ensures ∙ (l.bytes ∙ shows (names d.bank) (λ (q : ℕ). get_or d.kinds q U8) (marked d.marks) m r c.args.register.inside c.sound.ensures))
+    ∙ sym (carried (stands d m) r c.args.to (sym c.if-is_zero.ensures))))
