@@ -115,7 +115,7 @@ pub flushed_on : (s : Names) (kinds : ℕ → ElementType) (marked : ℕ → Boo
 unfolding data_of
 flushed_on s kinds marked m d n t named e f = ap flushed f ∙ flushed_rest n _ (ap (λ (o : Option ℕ). of_tag o marked false) named ∙ e)
 
--- fewer are marked once a mark is accepted away
+-- fewer are marked once a mark is taken away
 pub fewer : (marked marks : ℕ → Bool) (t last : ℕ) → marked t ≡ true → t < last → marks ≡ with_mark marked t false → how_many marks last < how_many marked last
 fewer marked marks t last e l f =
     let g = how_many-remove marked t last e l in

@@ -13,7 +13,7 @@ use Rattle.file.specs.Standing.{data_of, of_tag}
 use Rattle.file.proofs.DataSide.{same_data}
 
 -- a line has a tag exactly when a register names it
-named_tag : (s : Names) (n : ℕ) (o : Option ℕ) (b : Bool) → s.tag n ≡ o → named s.address n ≡ b → Sound s → b ≡ is_some o
+pub named_tag : (s : Names) (n : ℕ) (o : Option ℕ) (b : Bool) → s.tag n ≡ o → named s.address n ≡ b → Sound s → b ≡ is_some o
 unfolding named
 named_tag s n None true h e sound =
     let r = (some_decides 128 (λ q. names s.address q n)).0 e in

@@ -51,7 +51,7 @@ module _ (s : Names) (kinds : ℕ → ElementType) (marked : ℕ → Bool) (m : 
   unfolding sent data_of
   sends_some h = cond-true _ _ _ (ap (λ (o : Option ℕ). leaves_line s r a && of_tag o marked false) linked ∙ h)
 
--- the tag whose mark was accepted away
+-- the tag whose mark was taken away
 pub removed : (marked marks : ℕ → Bool) (t u : ℕ) → marks ≡ with_mark marked t false → t ≡ u → marks u ≡ false
 unfolding with_mark
 removed marked marks t u e f = ap (λ (p : ℕ → Bool). p u) e ∙ grind (arith, nat_tests, f)

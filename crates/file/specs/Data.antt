@@ -11,6 +11,7 @@ use Rattle.flat.specs.Registers.{is_zero, line_of, shared}
 use Rattle.file.specs.Standing.{data_of}
 use Rattle.file.specs.declared.data.DataRegisters.{DataRegisters}
 
+-- By the names of the bank, the types and the marks.
 unfoldable pub stands : DataRegisters → Meaning → Data
 stands d m = data_of (names d.bank) (λ r. get_or d.kinds r U8) (marked d.marks) m
 

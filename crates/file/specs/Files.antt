@@ -10,6 +10,7 @@ use Rattle.file.specs.declared.file.File.{File}
 use Rattle.file.specs.declared.machine.Machine.{Machine}
 use Rattle.file.specs.declared.file.File.TheVariants.{Cold, Warm}
 
+-- A cold file stands for the cold machine, a warm one for that of its registers.
 unfoldable pub stands : File → Meaning → Flat
 stands Cold m = cold m
 stands (Warm f) m = record { warm = true; machine = machine_stands f m }

@@ -5,5 +5,6 @@ use Rattle.tags.specs.Meaning.{names}
 use Rattle.file.specs.Standing.{instructions_of}
 use Rattle.file.specs.declared.instructions.InstructionRegisters.{InstructionRegisters}
 
+-- By the names of the bank.
 unfoldable pub stands : InstructionRegisters → ℕ → Instruction
 stands i = instructions_of (names i.bank)

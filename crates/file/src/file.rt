@@ -19,8 +19,8 @@ pub enum File {
 }
 
 impl File {
-    #[tactic(auto, unfolding(crate::specs::Files::stands, crate::specs::Machine::stands, flat::specs::Calls::cold, flat::specs::Calls::boot))]
     // Makes the file warm, on the store's lines. A file that is warm and a store of no lines are refused.
+    #[tactic(auto, unfolding(crate::specs::Files::stands, crate::specs::Machine::stands, flat::specs::Calls::cold, flat::specs::Calls::boot))]
     pub fn boot<S: Store>(&mut self, store: &S) -> Result<(), Refusal>
         ensures answer { result ≡ (boot (stands self.old (S.meaning store.now))).answer }
         ensures file { stands self.new (S.meaning store.now) ≡ (boot (stands self.old (S.meaning store.now))).flat }

@@ -89,6 +89,7 @@ pub record Steps : Type 0 where
   pub records : List StepRecord
   pub sent : List ℕ
 
+-- No steps were made yet.
 abbrev pub no_steps : Machine → Steps
 no_steps m = record { machine = m; ran = record { steps = 0; last = Done }; records = []; sent = [] }
 
@@ -182,13 +183,15 @@ words_from line (suc k) = words_from line k ++ little_endian line (4 * k) ∷ []
 abbrev pub instruction_shown : ℕ → Machine → ShownInstruction
 instruction_shown r m = record { address = (m.instructions r).address; words = words_from (m.instructions r).bytes 32 }
 
--- The three things that show can be asked for: a data register, an instruction register, and all other fields.
+-- Show is asked for one of three things: of a data register.
 unfoldable pub show_data : ℕ → Flat → Called ShownData
 show_data r = when_warm (of_register r (data_shown r))
 
+-- Of an instruction register.
 unfoldable pub show_instruction : ℕ → Flat → Called ShownInstruction
 show_instruction r = when_warm (of_register r (instruction_shown r))
 
+-- Of all other fields.
 unfoldable pub show_rest : Flat → Called Control
 show_rest = when_warm (λ f. answered f.machine.control f)
 

@@ -21,10 +21,11 @@ given m n = if nat_lt n m.size then m.line n else zeros
 unfoldable pub accepted : Meaning → ℕ → List ℕ → Meaning
 accepted m n bytes = if m.canwrite n then with_line m n bytes else m
 
--- The addresses of the data registers, and the line that one names.
+-- The addresses of the data registers.
 abbrev pub addresses : Data → ℕ → ℕ
 addresses d r = (d.registers r).address
 
+-- The line that a register names.
 abbrev pub line : Data → ℕ → ℕ
 line d r = line_of (addresses d r)
 

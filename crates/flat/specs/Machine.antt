@@ -15,10 +15,11 @@ pub record Machine : Type 0 where
   pub instructions : ℕ → Instruction
   pub control : Control
 
--- The machine with other data registers and memory, or with another control.
+-- The machine with other data registers and memory.
 abbrev pub with_data : Data → Machine → Machine
 with_data d m = record m { data_registers = d }
 
+-- With another control.
 abbrev pub with_control : Control → Machine → Machine
 with_control c m = record m { control = c }
 
@@ -30,6 +31,7 @@ go r address m = record m { instructions = take r address m.data_registers.memor
 abbrev pub ipc : Machine → ℕ
 ipc m = of_mode m.control.mode 63
 
+-- Its address.
 abbrev pub ipc_address : Machine → ℕ
 ipc_address m = (m.instructions (ipc m)).address
 

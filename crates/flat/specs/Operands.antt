@@ -11,19 +11,23 @@ use Rattle.flat.specs.Registers.{of_mode, line_of}
 abbrev pub reg : Machine → ℕ → ℕ
 reg m field = of_mode m.control.mode (field % 64)
 
--- Of the data register that a field names: its type, its address, its line's bytes, its element, and element k of its line.
+-- The type of the data register that a field names.
 abbrev pub kind_of : Machine → ℕ → ElementType
 kind_of m field = (m.data_registers.registers (reg m field)).kind
 
+-- Its address.
 abbrev pub address_of : Machine → ℕ → ℕ
 address_of m field = (m.data_registers.registers (reg m field)).address
 
+-- Its line's bytes.
 abbrev pub bytes_of : Machine → ℕ → List ℕ
 bytes_of m field = shown m.data_registers (reg m field)
 
+-- Its element.
 abbrev pub element_of : Machine → ℕ → ℤ
 element_of m field = shown_element m.data_registers (reg m field)
 
+-- Element k of its line.
 abbrev pub element_at : Machine → ℕ → ℕ → ℤ
 element_at m field k = element (kind_of m field) (bytes_of m field) k
 

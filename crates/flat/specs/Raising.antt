@@ -48,12 +48,14 @@ narrow_arith Ror a b c = a ∷ b ∷ c ∷ []
 narrow_arith Addr a b c = a ∷ c ∷ []
 narrow_arith op a b c = []
 
+-- Of reductions: dA in mul.r, max.r and min.r.
 abbrev pub narrow_reduction : Reduction → ℕ → List ℕ
 narrow_reduction Product a = a ∷ []
 narrow_reduction Max a = a ∷ []
 narrow_reduction Min a = a ∷ []
 narrow_reduction op a = []
 
+-- Of every operation.
 unfoldable pub narrow : Operation → List ℕ
 narrow (Arithmetic op form a b c) = narrow_arith op a b c
 narrow (Div form a b c d) = c ∷ []

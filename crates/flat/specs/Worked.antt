@@ -10,5 +10,6 @@ use Rattle.flat.specs.Step.{AfterStep, step}
 abbrev pub store_with : ℕ → Meaning
 store_with w = record { size = 2; line = λ n. if n == 0 then bytes 4 w ++ replicate 124 0 else zeros; canwrite = λ n. true; kept = nothing }
 
+-- What the step leaves and answers.
 abbrev pub after_word : ℕ → AfterStep
 after_word w = step (started (store_with w))
