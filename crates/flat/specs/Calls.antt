@@ -207,6 +207,6 @@ flush = when_warm (λ f. answered (touched_lines f.machine.data_registers) (with
 unfoldable pub halt : Flat → Called ℕ
 halt = when_warm (λ f. answered (touched_lines f.machine.data_registers) (cold (flushed f.machine.data_registers).backing))
 
--- A call may be handed another store than the calls before it.
+-- The machine as a call on the store m finds it, which need not be the store of the calls before it: a warm machine is handed that store; of a cold one only the store is left.
 unfoldable pub on_store : Meaning → Flat → Flat
 on_store m f = if f.warm then with_machine (with_data (handed m f.machine.data_registers) f.machine) f else cold m

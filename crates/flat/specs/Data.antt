@@ -57,7 +57,7 @@ write_element r z d = write r (put (width (d.registers r).kind) (shown d r) (pla
 unfoldable pub sent_back : ℕ → Data → Data
 sent_back n d = record d { touched = at d.touched n false; backing = accepted d.backing n (d.memory n) }
 
--- Of a line that no data register names, memory holds what the backing copy gives. (Memory held that already, unless the store is another than boot's.)
+-- Of a line that no data register names, memory holds what the backing copy gives. (Memory held that already where no other store than boot's was handed in between.)
 unfoldable pub let_go : ℕ → Data → Data
 let_go n d = record d { memory = at d.memory n (given d.backing n) }
 

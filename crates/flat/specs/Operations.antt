@@ -26,7 +26,7 @@ abbrev pub first_operand : Arith → ℕ → ℤ → ℤ
 first_operand Addr address x = pos address
 first_operand op address x = x
 
--- What group 0 makes of an element x of dB and an element y of dC, both cast to dA's type, and so the result.
+-- What group 0 makes of an element x of dB and an element y of dC, both cast to dA's type; the result is cast too.
 abbrev pub result : Machine → Arith → ℕ → ℕ → ℤ → ℤ → ℤ
 result m op a b x y = computed op (kind_of m a) (first_operand op (address_of m b) x) y
 
@@ -83,7 +83,7 @@ put_at r b w m after = take r (word_place m b w) m.data_registers.memory after
 -- What an operation does to the instruction registers, once ipc has moved on where it does.
 unfoldable pub instructions_after : Operation → Machine → (ℕ → Instruction) → ℕ → Instruction
 -- fetch: register a + k takes its line, k rising from 0 to j
-instructions_after (Fetch a b i j) m after = over (λ held k. take (reg m (a + k)) (fetch_target m b i k) m.data_registers.memory held) after (suc j)
+instructions_after (Fetch a b i j) m after = over (λ so_far k. take (reg m (a + k)) (fetch_target m b i k) m.data_registers.memory so_far) after (suc j)
 -- a taken jump puts ipc on iB's line at word w; hand does so to the user's ipc
 instructions_after (JumpNotZero a b w) m after = if is_taken m (JumpNotZero a b w) then put_at (ipc m) b w m after else after
 instructions_after (JumpZero a b w) m after = if is_taken m (JumpZero a b w) then put_at (ipc m) b w m after else after
