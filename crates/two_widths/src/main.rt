@@ -43,6 +43,20 @@ fn stacked<'a>(memory: Ram<'a>) -> Split<Fuse<Ram<'a>>, OpenBus> {
     }
 }
 
+fn short(address: u32) -> DataRegister {
+    DataRegister {
+        address,
+        kind: ElementType::U16,
+    }
+}
+
+fn long(address: u32) -> DataRegister {
+    DataRegister {
+        address,
+        kind: ElementType::U32,
+    }
+}
+
 // The machine of a warm file, to be changed.
 fn warm(file: &mut File) -> Result<&mut Machine, Refusal> {
     match file {
@@ -86,7 +100,7 @@ fn print_shared(rt: &HostRuntime, file: &File) -> Result<(), Failure> {
     let bank = file.machine()?.registers.bank();
     let five = bank.tag(Register::try_from(D5)?);
     let six = bank.tag(Register::try_from(D6)?);
-    println!(rt; "d5 and d6 carry one tag: {}", five == six)?;
+    println!(rt; "registers {D5} and {D6} carry one tag: {}", five == six)?;
     println!(rt; "count {}", bank.count(six))?;
     Ok(())
 }
@@ -145,70 +159,23 @@ fn print_stored<S: Store>(rt: &HostRuntime, store: &S, line: u32) -> Result<(), 
 
 // Both registers name line 2, at two widths.
 fn share<S: Store>(rt: &HostRuntime, file: &mut File, store: &mut S) -> Result<(), Failure> {
-    let (short, long) = (ElementType::U16, ElementType::U32);
-    go(
-        rt,
-        file,
-        D5,
-        DataRegister {
-            address: 256,
-            kind: short,
-        },
-        store,
-    )?;
-    go(
-        rt,
-        file,
-        D6,
-        DataRegister {
-            address: 264,
-            kind: long,
-        },
-        store,
-    )?;
+    go(rt, file, D5, short(256), store)?;
+    go(rt, file, D6, long(264), store)?;
     print_shared(rt, file)?;
     write(rt, file, 0xBEEF)?;
     print_element(rt, file, D5)?;
     print_element(rt, file, D6)?;
     print_bytes(rt, file)?;
-    go(
-        rt,
-        file,
-        D6,
-        DataRegister {
-            address: 256,
-            kind: long,
-        },
-        store,
-    )?;
+    go(rt, file, D6, long(256), store)?;
     print_element(rt, file, D6)?;
     print_stored(rt, store, 2)
 }
 
 // Both leave line 2.
 fn leave<S: Store>(rt: &HostRuntime, file: &mut File, store: &mut S) -> Result<(), Failure> {
-    let (short, long) = (ElementType::U16, ElementType::U32);
-    go(
-        rt,
-        file,
-        D5,
-        DataRegister {
-            address: 384,
-            kind: short,
-        },
-        store,
-    )?;
+    go(rt, file, D5, short(384), store)?;
     print_stored(rt, store, 2)?;
-    go(
-        rt,
-        file,
-        D6,
-        DataRegister {
-            address: 512,
-            kind: long,
-        },
-        store,
-    )?;
+    go(rt, file, D6, long(512), store)?;
     print_stored(rt, store, 2)
 }
 
