@@ -1,0 +1,9 @@
+-- So many registers went to their lines.
+use Rattle.std.proofs.Common.{◌≡◌}
+use Rattle.file.specs.Machine.{stands}
+use Rattle.engine.specs.Fetching.{fetched}
+use Rattle.engine.proofs.fetching.fetch_lines.Given as goal
+
+abbrev pub invariant-loop-k : goal.invariant-loop-k
+invariant-loop-k g l =
+    stands l.machine (g.S.Store.meaning l.store) ≡ fetched l.a l.start l.k (stands l.initial.machine (g.S.Store.meaning l.store))

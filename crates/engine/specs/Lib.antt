@@ -1,0 +1,5 @@
+pub mod Arithmetic
+pub mod Entering
+pub mod Fetching
+pub mod Lengths
+pub mod Running

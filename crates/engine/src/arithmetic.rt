@@ -1,0 +1,126 @@
+// Arithmetic, division and reductions. A vector form is carried out where the widths of its registers'
+// types are equal; the step has entered an exception where they are not.
+ghost use Rattle.std.specs.Prelude.{◌≡◌, ◌≢◌, false};
+ghost use Rattle.store.specs.Meaning.{Meaning};
+ghost use Rattle.flat.specs.Machine.{with_data};
+ghost use Rattle.flat.specs.Operations.{arithmetic, data_after};
+ghost use Rattle.flat.specs.Raising.{uneven};
+ghost use Rattle.file.specs.Data.{stands as shows};
+ghost use Rattle.file.specs.Machine.{stands};
+ghost use Rattle.word.specs.declared.opcodes.Arith.TheVariants.{Addr};
+ghost use Rattle.word.specs.declared.opcodes.Form.TheVariants.{Scalar, Vector};
+ghost use Rattle.word.specs.declared.operations.Operation.TheVariants.{Arith as Arithmetic, Reduce};
+ghost use Rattle.engine.specs.Arithmetic.{AsWide, first_of, reduction_of, result_of, results_of};
+
+use crate::changes::{element, put_element, put_line};
+use file::{DataRegisters, Machine};
+use line::{reduce as reduce_line, vector, vector_addr, zeros};
+use scalar::compute;
+use tags::Register;
+use word::{Arith, Form, Reduction};
+
+// The first operand of a scalar form: an element, or for addr an address.
+fn first_operand(registers: &DataRegisters, op: Arith, b: Register) -> i128
+    ensures { (m : Meaning) → result ≡ first_of (shows registers.now m) op b.number }
+{
+    match op {
+        Arith::Addr => i128::from(registers.register(b).address),
+        _ => element(registers, b),
+    }
+}
+
+// The result of a scalar form.
+fn element_result(
+    registers: &DataRegisters,
+    op: Arith,
+    a: Register,
+    b: Register,
+    c: Register,
+) -> i128
+    ensures { (m : Meaning) → result ≡ result_of (shows registers.now m) op a.number b.number c.number }
+{
+    let x = first_operand(registers, op, b);
+    let y = element(registers, c);
+    compute(op, registers.register(a).kind, x, y)
+}
+
+// The line of results of a vector form.
+#[tactic(auto, using(crate::proofs::Vectors::arithmetic_lines))]
+fn line_result(
+    registers: &DataRegisters,
+    op: Arith,
+    a: Register,
+    b: Register,
+    c: Register,
+    out: &mut [u8; 128],
+)
+    requires second { (m : Meaning) → AsWide (shows registers.now m) a.number c.number }
+    requires first { (m : Meaning) → op ≢ Addr → AsWide (shows registers.now m) a.number b.number }
+    ensures { (m : Meaning) → out.new ≡ results_of (shows registers.now m) op a.number b.number c.number }
+{
+    let kind = registers.register(a).kind;
+    let y = registers.bytes(c);
+    match op {
+        Arith::Addr => vector_addr(kind, registers.register(b).address, y, out),
+        _ => vector(op, kind, registers.bytes(b), y, out),
+    }
+}
+
+// A scalar form.
+#[tactic(auto, unfolding(file::specs::Machine::stands, flat::specs::Operations::arithmetic))]
+fn arithmetic_scalar(machine: &mut Machine, op: Arith, a: u8, b: u8, c: u8)
+    ensures { stands machine.new ≡ (λ m. with_data (arithmetic op Scalar a b c (stands machine.old m)) (stands machine.old m)) }
+{
+    let mode = machine.control.mode;
+    let a = Register::of(mode, a);
+    let b = Register::of(mode, b);
+    let c = Register::of(mode, c);
+    let z = element_result(&machine.registers, op, a, b, c);
+    put_element(&mut machine.registers, a, z);
+}
+
+// A vector form.
+#[tactic(auto, using(crate::proofs::VectorForms::arithmetic_forms))]
+fn arithmetic_vector(machine: &mut Machine, op: Arith, a: u8, b: u8, c: u8)
+    requires { (m : Meaning) → uneven (stands machine.old m) (Arithmetic op Vector a b c) ≡ false }
+    ensures { stands machine.new ≡ (λ m. with_data (arithmetic op Vector a b c (stands machine.old m)) (stands machine.old m)) }
+{
+    let mode = machine.control.mode;
+    let a = Register::of(mode, a);
+    let b = Register::of(mode, b);
+    let c = Register::of(mode, c);
+    let mut line = zeros();
+    line_result(&machine.registers, op, a, b, c, &mut line);
+    put_line(&mut machine.registers, a, &line);
+}
+
+// Group 0.
+pub(crate) fn arithmetic(machine: &mut Machine, op: Arith, form: Form, a: u8, b: u8, c: u8)
+    requires { (m : Meaning) → uneven (stands machine.old m) (Arithmetic op form a b c) ≡ false }
+    ensures { stands machine.new ≡ (λ m. with_data (arithmetic op form a b c (stands machine.old m)) (stands machine.old m)) }
+{
+    match form {
+        Form::Scalar => arithmetic_scalar(machine, op, a, b, c),
+        Form::Vector => arithmetic_vector(machine, op, a, b, c),
+    }
+}
+
+// What a reduction makes of every element of a line.
+fn reduction(registers: &DataRegisters, op: Reduction, a: Register, b: Register) -> i128
+    ensures { (m : Meaning) → result ≡ reduction_of (shows registers.now m) op a.number b.number }
+{
+    let to = registers.register(a).kind;
+    let from = registers.register(b).kind;
+    reduce_line(op, to, from, registers.bytes(b))
+}
+
+// A reduction joins every element of dB's line into dA's element.
+#[tactic(auto, unfolding(file::specs::Machine::stands, flat::specs::Operations::data_after))]
+pub(crate) fn reduce(machine: &mut Machine, op: Reduction, a: u8, b: u8)
+    ensures { stands machine.new ≡ (λ m. with_data (data_after (Reduce op a b) (stands machine.old m)) (stands machine.old m)) }
+{
+    let mode = machine.control.mode;
+    let a = Register::of(mode, a);
+    let z = reduction(&machine.registers, op, a, Register::of(mode, b));
+    put_element(&mut machine.registers, a, z);
+}
