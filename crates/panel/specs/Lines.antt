@@ -1,0 +1,36 @@
+-- The lines that are printed after a command, and of a refused image.
+use Rattle.std.specs.Prelude.{ℕ, List, [], ◌∷◌, ◌++◌, codes, true, false}
+use Rattle.std.proofs.Math.Utf8.{encode}
+use Rattle.std.specs.Fmt.{decimal, digits, padded_integral, format_spec}
+use Rattle.flat.specs.Calls.{Flat, Called, answered, when_warm}
+use Rattle.flat.specs.Machine.{Machine, ipc_address}
+use Rattle.flat.specs.declared.control.Mode.{Mode}
+use Rattle.flat.specs.declared.control.Mode.TheVariants.{User, Supervisor}
+use Rattle.refusal.specs.Numbers.{number}
+use Rattle.panel.specs.declared.refused.RefusedImage.{RefusedImage}
+use Rattle.panel.specs.declared.shown.Line.{Line}
+
+-- A line has the letter, the mode, ipc's address and xct.
+abbrev pub line_of : ℕ → Machine → Line
+line_of letter m = record { letter = letter; mode = m.control.mode; address = ipc_address m; xct = m.control.xct }
+
+-- As every call, it is refused on a cold machine; it changes nothing.
+abbrev pub line_call : ℕ → Flat → Called Line
+line_call letter = when_warm (λ f. answered (line_of letter f.machine) f)
+
+-- The letter of a mode.
+abbrev pub mode_text : Mode → List ℕ
+mode_text User = codes "U"
+mode_text Supervisor = codes "S"
+
+-- 8 capital hexadecimal digits, with zeros in front.
+abbrev pub hex : ℕ → List ℕ
+hex n = padded_integral (format_spec 32 0 4 8 18446744073709551615) false [] (digits 16 true n)
+
+-- The printed line, with one space between.
+abbrev pub text_of : Line → List ℕ
+text_of line = encode line.letter ++ codes " " ++ mode_text line.mode ++ codes " " ++ hex line.address ++ codes " " ++ hex line.xct
+
+-- The line of a refused image: x, a space and the refusal's number.
+abbrev pub refused_text : RefusedImage → List ℕ
+refused_text image = codes "x " ++ decimal (number image.0)

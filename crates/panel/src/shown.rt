@@ -1,0 +1,62 @@
+// The line that is printed after a command.
+ghost use Rattle.std.specs.Prelude.{◌≡◌, Some};
+ghost use Rattle.store.specs.Meaning.{Meaning};
+ghost use Rattle.file.specs.Files.{stands};
+ghost use Rattle.panel.specs.Lines.{line_call, mode_text, text_of};
+
+use file::File;
+use flat::Mode;
+use refusal::Refusal;
+use std::fmt;
+use tags::Register;
+
+// ipc is this instruction register of its mode.
+const IPC: u8 = 63;
+
+#[derive(Clone, Copy, PartialEq, Eq, Debug)]
+pub struct Line {
+    pub letter: char,
+    pub mode: Mode,
+    // ipc's
+    pub address: u32,
+    pub xct: u32,
+}
+
+impl Line {
+    // The line that a letter is answered with, on a warm file.
+    #[tactic(auto, unfolding(file::specs::Files::stands, file::specs::Machine::stands, flat::specs::Calls::cold))]
+    pub fn of(letter: char, file: &File) -> Result<Line, Refusal>
+        ensures { (m : Meaning) → result ≡ (line_call letter (stands file.now m)).answer }
+    {
+        let machine = file.machine()?;
+        let mode = machine.control.mode;
+        let address = machine.instructions.address(Register::of(mode, IPC));
+        let xct = machine.control.xct;
+        Ok(Line {
+            letter,
+            mode,
+            address,
+            xct,
+        })
+    }
+}
+
+fn mode_text(mode: Mode) -> &'static str
+    ensures { result.now ≡ mode_text mode }
+{
+    match mode {
+        Mode::User => "U",
+        Mode::Supervisor => "S",
+    }
+}
+
+// Written out, since its text is promised.
+impl fmt::Display for Line {
+    ghost output = { λ line. Some (text_of line) };
+
+    fn fmt<W: fmt::Write>(&self, f: &mut fmt::Formatter<W>) -> fmt::Result {
+        let Line { letter, mode, address, xct } = *self;
+        let mode = mode_text(mode);
+        write!(f, "{letter} {mode} {address:08X} {xct:08X}")
+    }
+}
