@@ -6,9 +6,8 @@
 
 mod failure;
 
-pub use failure::Failure;
-
 use bench::{FileFault, RAM_BYTES, load_file, on_bench};
+pub use failure::Failure;
 use file::File;
 use panel::{Command, Line, RefusedImage, command_of, obey};
 use std::io::Read;

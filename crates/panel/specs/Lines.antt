@@ -1,5 +1,5 @@
 -- The lines that are printed after a command, and of a refused image.
-use Rattle.std.specs.Prelude.{ℕ, List, [], ◌∷◌, ◌++◌, codes, true, false}
+use Rattle.std.specs.Prelude.{ℕ, List, [], ◌++◌, codes, true, false}
 use Rattle.std.proofs.Math.Utf8.{encode}
 use Rattle.std.specs.Fmt.{decimal, digits, padded_integral, format_spec}
 use Rattle.flat.specs.Calls.{Flat, Called, answered, when_warm}

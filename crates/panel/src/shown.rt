@@ -55,7 +55,12 @@ impl fmt::Display for Line {
     ghost output = { λ line. Some (text_of line) };
 
     fn fmt<W: fmt::Write>(&self, f: &mut fmt::Formatter<W>) -> fmt::Result {
-        let Line { letter, mode, address, xct } = *self;
+        let Line {
+            letter,
+            mode,
+            address,
+            xct,
+        } = *self;
         let mode = mode_text(mode);
         write!(f, "{letter} {mode} {address:08X} {xct:08X}")
     }
