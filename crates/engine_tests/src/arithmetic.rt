@@ -4,7 +4,8 @@ use crate::rig::{
     FILLED, MODES, after, check_at, check_data, check_stored, laid, load, memory, number, one,
     pairs, started, w,
 };
-use flat::Mode;
+use engine::run;
+use flat::{Mode, Ran, Stepped};
 use std::process::Abort;
 use store::Ram;
 use word::ElementType::{S8, S16, S32, S64, U8, U16, U32, U64};
@@ -393,5 +394,64 @@ fn reductions(rt: HostRuntime) {
             d: FILLED,
         };
         check(&rt, &case);
+    }
+}
+
+// d1 and d2 are on one line, d1's a line of u8: every operand is read before anything is written.
+#[test]
+fn one_line(rt: HostRuntime) {
+    let form = Form::Vector;
+    let (a, b, c) = (1, 2, 1);
+    for mode in MODES {
+        let program = [
+            load(U8, 1, 0, 128),
+            load(S8, 2, 0, 129),
+            w(Operation::Arith {
+                op: Arith::Add,
+                form,
+                a,
+                b,
+                c,
+            }),
+            load(U16, 2, 0, 131),
+            w(Operation::Arith {
+                op: Arith::Mul,
+                form: Form::Scalar,
+                a: 2,
+                b: 1,
+                c: 2,
+            }),
+        ];
+        let lines = [pairs(U8, [100, 200]), FILLED, FILLED, FILLED];
+        let mut bytes = memory(&laid(mode, &program, 0), &lines);
+        let mut ram = Ram::new(&mut bytes);
+        let mut file = started(&rt, mode, 3, &mut ram);
+        check_data(
+            &rt,
+            &file,
+            number(mode, 1),
+            (128, U8, pairs(U8, [200, 144])),
+        );
+        check_data(
+            &rt,
+            &file,
+            number(mode, 2),
+            (129, S8, pairs(U8, [200, 144])),
+        );
+        assert_eq!(rt;
+            run(&mut file, 2, &mut ram),
+            Ok(Ran {
+                steps: 2,
+                last: Stepped::Done
+            })
+        );
+        let mut product = pairs(U8, [200, 144]);
+        product[2] = 0x40;
+        product[3] = 0x1C;
+        check_data(&rt, &file, number(mode, 1), (128, U8, product));
+        check_data(&rt, &file, number(mode, 2), (131, U16, product));
+        check_stored(&rt, &ram, 1, pairs(U8, [100, 200]));
+        assert_eq!(rt; file.flush(&mut ram), Ok(1));
+        check_stored(&rt, &ram, 1, product);
     }
 }

@@ -27,6 +27,10 @@ fn copy_out(from: Special, a: u8) -> u32 {
     w(Operation::CopyOut { from, a })
 }
 
+fn swi(a: u8, b: u8, c: u8, d: u8) -> u32 {
+    w(Operation::Swi { a, b, c, d })
+}
+
 fn reti() -> u32 {
     w(Operation::Reti)
 }
@@ -255,10 +259,6 @@ fn cpy_of_d0(rt: HostRuntime) {
     assert_eq!(rt; file.flush(&mut ram), Ok(0));
 }
 
-fn swi(a: u8, b: u8, c: u8, d: u8) -> u32 {
-    w(Operation::Swi { a, b, c, d })
-}
-
 #[test]
 fn software_interrupts(rt: HostRuntime) {
     for (mode, user) in [(Mode::User, 24), (Mode::Supervisor, 0)] {
@@ -419,4 +419,36 @@ fn no_interrupt(rt: HostRuntime) {
     check_done(&rt, &mut file, &mut ram);
     check_at(&rt, &file, Mode::Supervisor, 12, 0);
     check_ie(&rt, &file, true);
+}
+
+// With a next line, swi in word 31 moves the user's ipc there; the supervisor's goes on to address 0.
+#[test]
+fn a_software_interrupt_in_word_31(rt: HostRuntime) {
+    for (mode, user) in [(Mode::User, 128), (Mode::Supervisor, 0)] {
+        let program = [fetch(1, 0, 32, 0), jump_zero(0, 63, 31)];
+        let mut bytes = memory(&laid(mode, &program, swi(0, 0, 0, 0)), &LINES);
+        let mut ram = Ram::new(&mut bytes);
+        let mut file = started(&rt, mode, 2, &mut ram);
+        check_enters(&rt, &mut file, Exception::Software, &mut ram);
+        check_at(&rt, &file, Mode::Supervisor, 0, 4);
+        check_word(&rt, &file, 127, 31, swi(0, 0, 0, 0));
+        check_code(&rt, &file, 63, user);
+    }
+}
+
+// ipc runs its own words, whatever is written to their line, and the supervisor's ipc copies them as it enters.
+#[test]
+fn ipc_keeps_its_words(rt: HostRuntime) {
+    for mode in MODES {
+        let program = [dup(U8, 5, 0), load(U16, 6, 0, 128), 0xFFFF_FFFF];
+        let mut bytes = memory(&laid(mode, &program, 0), &LINES);
+        let mut ram = Ram::new(&mut bytes);
+        let mut file = started(&rt, mode, 2, &mut ram);
+        check_data(&rt, &file, number(mode, 5), (0, U8, [0; 128]));
+        check_data(&rt, &file, number(mode, 6), (128, U16, [1; 128]));
+        check_enters(&rt, &mut file, Exception::Undefined, &mut ram);
+        check_at(&rt, &file, Mode::Supervisor, 0, 2);
+        check_word(&rt, &file, 127, 31, 0);
+        assert_eq!(rt; file.flush(&mut ram), Ok(1));
+    }
 }

@@ -1,7 +1,7 @@
 // Load, store, dup and fetch, in both modes, with what tags and store have afterwards.
 use crate::rig::{
     LINES, MODES, after, check_at, check_code, check_data, check_stored, check_word, dup, fetch,
-    laid, load, memory, number, one, started, store,
+    jump_zero, laid, load, memory, number, one, started, store,
 };
 use engine::step;
 use file::File;
@@ -9,7 +9,10 @@ use flat::{Mode, Stepped};
 use std::process::Abort;
 use store::Ram;
 use tags::Register;
-use word::ElementType::{S8, S16, U8, U16, U32, U64};
+use word::ElementType;
+use word::ElementType::{S8, S16, S32, S64, U8, U16, U32, U64};
+
+const KINDS: [ElementType; 8] = [U8, S8, U16, S16, U32, S32, U64, S64];
 
 // How many data registers carry the tag of a register.
 fn count(file: &File, mode: Mode, field: u8) -> Option<u8> {
@@ -19,6 +22,18 @@ fn count(file: &File, mode: Mode, field: u8) -> Option<u8> {
             Some(bank.count(bank.tag(Register::of(mode, field))))
         }
         Err(_) => None,
+    }
+}
+
+// What d8, which stays on line 0, shows.
+fn first_line(file: &File) -> [u8; 128] {
+    file.show_data(8).map_or([0; 128], |shown| shown.bytes)
+}
+
+fn other(mode: Mode) -> Mode {
+    match mode {
+        Mode::User => Mode::Supervisor,
+        Mode::Supervisor => Mode::User,
     }
 }
 
@@ -209,5 +224,139 @@ fn a_fetch_sees_newer_bytes(rt: HostRuntime) {
         check_word(&rt, &file, number(mode, 3), 0, 0);
         check_code(&rt, &file, number(mode, 3), 128);
         check_stored(&rt, &ram, 1, [1; 128]);
+    }
+}
+
+// Each type is an opcode of its own; d0's element is 0.
+#[test]
+fn every_type(rt: HostRuntime) {
+    for mode in MODES {
+        for kind in KINDS {
+            let program = [
+                load(kind, 5, 0, 140),
+                store(kind, 6, 5, 128),
+                dup(kind, 7, 0),
+            ];
+            let mut bytes = memory(&laid(mode, &program, 0), &LINES);
+            let mut ram = Ram::new(&mut bytes);
+            let mut file = started(&rt, mode, 1, &mut ram);
+            check_data(&rt, &file, number(mode, 5), (140, kind, [1; 128]));
+            let first = first_line(&file);
+            assert_eq!(rt; step(&mut file, &mut ram), Ok(Stepped::Done));
+            check_data(&rt, &file, number(mode, 6), (268, kind, first));
+            assert_eq!(rt; step(&mut file, &mut ram), Ok(Stepped::Done));
+            check_data(&rt, &file, number(mode, 7), (0, kind, [0; 128]));
+            check_data(&rt, &file, number(other(mode), 7), (0, U8, [0; 128]));
+            check_at(&rt, &file, mode, after(mode, 3), 0);
+            assert_eq!(rt; file.flush(&mut ram), Ok(2));
+            check_stored(&rt, &ram, 0, [0; 128]);
+            check_stored(&rt, &ram, 2, first);
+        }
+    }
+}
+
+// d5 writes line 1 and leaves it: it is sent back when d6 has left it too, and by a load alone.
+#[test]
+fn a_load_sends_back(rt: HostRuntime) {
+    for mode in MODES {
+        let program = [
+            load(U8, 5, 0, 128),
+            load(U8, 6, 0, 130),
+            dup(U8, 5, 0),
+            load(U8, 5, 0, 256),
+            load(U8, 6, 6, 124),
+            load(U8, 6, 6, 2),
+        ];
+        let mut bytes = memory(&laid(mode, &program, 0), &LINES);
+        let mut ram = Ram::new(&mut bytes);
+        let mut file = started(&rt, mode, 4, &mut ram);
+        check_stored(&rt, &ram, 1, [1; 128]);
+        check_data(&rt, &file, number(mode, 6), (130, U8, [0; 128]));
+        assert_eq!(rt; step(&mut file, &mut ram), Ok(Stepped::Done));
+        check_data(&rt, &file, number(mode, 6), (254, U8, [0; 128]));
+        check_stored(&rt, &ram, 1, [1; 128]);
+        assert_eq!(rt; step(&mut file, &mut ram), Ok(Stepped::Done));
+        check_data(&rt, &file, number(mode, 6), (256, U8, [2; 128]));
+        check_stored(&rt, &ram, 1, [0; 128]);
+        assert_eq!(rt; file.flush(&mut ram), Ok(0));
+    }
+}
+
+// d6 is on the line that d5 is stored to.
+#[test]
+fn a_store_to_a_line_in_use(rt: HostRuntime) {
+    for mode in MODES {
+        let program = [
+            load(U8, 5, 0, 128),
+            load(S16, 6, 0, 300),
+            store(U32, 5, 6, 20),
+        ];
+        let mut bytes = memory(&laid(mode, &program, 0), &LINES);
+        let mut ram = Ram::new(&mut bytes);
+        let mut file = started(&rt, mode, 3, &mut ram);
+        check_data(&rt, &file, number(mode, 5), (320, U32, [1; 128]));
+        check_data(&rt, &file, number(mode, 6), (300, S16, [1; 128]));
+        assert_eq!(rt; count(&file, mode, 5), Some(2));
+        check_stored(&rt, &ram, 2, [2; 128]);
+        assert_eq!(rt; file.flush(&mut ram), Ok(1));
+        check_stored(&rt, &ram, 1, [1; 128]);
+        check_stored(&rt, &ram, 2, [1; 128]);
+    }
+}
+
+// The element is read before the line is filled, by the type before.
+#[test]
+fn a_dup_of_its_own_element(rt: HostRuntime) {
+    for mode in MODES {
+        let program = [load(S8, 5, 0, 147), dup(U32, 5, 5)];
+        let lines = [one(S8, 19, 0x80), [2; 128], [3; 128], [4; 128]];
+        let mut bytes = memory(&laid(mode, &program, 0), &lines);
+        let mut ram = Ram::new(&mut bytes);
+        let file = started(&rt, mode, 2, &mut ram);
+        let filled = std::array::from_fn(|k| [0x80, 0xFF, 0xFF, 0xFF][k % 4]);
+        check_data(&rt, &file, number(mode, 5), (147, U32, filled));
+    }
+}
+
+// The start is i1's address before it goes; in word 31, ipc is on line 1 before i1 leaves it.
+#[test]
+fn fetches_from_a_register_that_goes(rt: HostRuntime) {
+    for mode in MODES {
+        let program = [
+            fetch(1, 0, 32, 0),
+            load(U8, 5, 0, 128),
+            dup(U8, 5, 0),
+            jump_zero(0, 63, 31),
+        ];
+        let mut bytes = memory(&laid(mode, &program, fetch(1, 1, 32, 1)), &LINES);
+        let mut ram = Ram::new(&mut bytes);
+        let file = started(&rt, mode, 5, &mut ram);
+        check_at(&rt, &file, mode, 128, 0);
+        check_word(&rt, &file, number(mode, 63), 0, 0x0101_0101);
+        check_code(&rt, &file, number(mode, 1), 256);
+        check_word(&rt, &file, number(mode, 1), 9, 0x0202_0202);
+        check_code(&rt, &file, number(mode, 2), 384);
+        check_word(&rt, &file, number(mode, 2), 9, 0x0303_0303);
+        check_stored(&rt, &ram, 1, [1; 128]);
+    }
+}
+
+// ipc is on line 1 before i1 leaves it, and i2 copies ipc's words there, whatever d5 has written.
+#[test]
+fn fetches_after_ipc_has_moved_on(rt: HostRuntime) {
+    for mode in MODES {
+        let program = [
+            fetch(1, 0, 32, 0),
+            load(U8, 5, 0, 128),
+            dup(U8, 5, 0),
+            jump_zero(0, 63, 31),
+        ];
+        let mut bytes = memory(&laid(mode, &program, fetch(1, 0, 0, 1)), &LINES);
+        let mut ram = Ram::new(&mut bytes);
+        let file = started(&rt, mode, 5, &mut ram);
+        check_at(&rt, &file, mode, 128, 0);
+        check_code(&rt, &file, number(mode, 1), 0);
+        check_code(&rt, &file, number(mode, 2), 128);
+        check_word(&rt, &file, number(mode, 2), 0, 0x0101_0101);
     }
 }
