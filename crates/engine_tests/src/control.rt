@@ -436,7 +436,7 @@ fn a_software_interrupt_in_word_31(rt: HostRuntime) {
     }
 }
 
-// ipc runs its own words, whatever is written to their line, and the supervisor's ipc copies them as it enters.
+// ipc runs its own words, whatever is written to their line, and an entry copies them.
 #[test]
 fn ipc_keeps_its_words(rt: HostRuntime) {
     for mode in MODES {
