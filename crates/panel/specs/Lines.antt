@@ -1,7 +1,6 @@
 -- The lines that are printed after a command, and of a refused image.
-use Rattle.std.specs.Prelude.{ℕ, List, [], ◌++◌, codes, true, false}
-use Rattle.std.proofs.Math.Utf8.{encode}
-use Rattle.std.specs.Fmt.{decimal, digits, padded_integral, format_spec}
+use Rattle.std.specs.Prelude.{ℕ, ◌-◌, List, ◌++◌, encode_utf8, length, replicate, codes, true}
+use Rattle.std.specs.Fmt.{decimal, digits}
 use Rattle.flat.specs.Calls.{Flat, Called, answered, when_warm}
 use Rattle.flat.specs.Machine.{Machine, ipc_address}
 use Rattle.flat.specs.declared.control.Mode.{Mode}
@@ -23,13 +22,13 @@ abbrev pub mode_text : Mode → List ℕ
 mode_text User = codes "U"
 mode_text Supervisor = codes "S"
 
--- 8 capital hexadecimal digits, with zeros in front.
+-- The capital hexadecimal digits of a number, with zeros (code 48) in front of them up to 8.
 abbrev pub hex : ℕ → List ℕ
-hex n = padded_integral (format_spec 32 0 4 8 18446744073709551615) false [] (digits 16 true n)
+hex n = replicate (8 - length (digits 16 true n)) 48 ++ digits 16 true n
 
 -- The printed line, with one space between.
 abbrev pub text_of : Line → List ℕ
-text_of line = encode line.letter ++ codes " " ++ mode_text line.mode ++ codes " " ++ hex line.address ++ codes " " ++ hex line.xct
+text_of line = encode_utf8 line.letter ++ codes " " ++ mode_text line.mode ++ codes " " ++ hex line.address ++ codes " " ++ hex line.xct
 
 -- The line of a refused image: x, a space and the refusal's number.
 abbrev pub refused_text : RefusedImage → List ℕ

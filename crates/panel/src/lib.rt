@@ -4,6 +4,7 @@
 #![tactic(auto)]
 
 mod commands;
+mod hex;
 mod refused;
 mod shown;
 

@@ -4,6 +4,7 @@ ghost use Rattle.store.specs.Meaning.{Meaning};
 ghost use Rattle.file.specs.Files.{stands};
 ghost use Rattle.panel.specs.Lines.{line_call, mode_text, text_of};
 
+use crate::hex::Hex;
 use file::File;
 use flat::Mode;
 use refusal::Refusal;
@@ -62,6 +63,8 @@ impl fmt::Display for Line {
             xct,
         } = *self;
         let mode = mode_text(mode);
-        write!(f, "{letter} {mode} {address:08X} {xct:08X}")
+        let address = Hex(address);
+        let xct = Hex(xct);
+        write!(f, "{letter} {mode} {address} {xct}")
     }
 }
