@@ -1,5 +1,5 @@
-// Arithmetic, division and reductions. A vector form is carried out where the widths of its registers'
-// types are equal; the step has entered an exception where they are not.
+// Arithmetic and reductions. A vector form is carried out where the widths of its registers' types are
+// equal; the step has entered an exception where they are not.
 ghost use Rattle.std.specs.Prelude.{◌≡◌, ◌≢◌, false};
 ghost use Rattle.store.specs.Meaning.{Meaning};
 ghost use Rattle.flat.specs.Machine.{with_data};
@@ -94,7 +94,7 @@ fn arithmetic_vector(machine: &mut Machine, op: Arith, a: u8, b: u8, c: u8)
     put_line(&mut machine.registers, a, &line);
 }
 
-// Group 0.
+// Arithmetic: the result goes to dA's element, and in the vector form to each element of dA's line.
 pub(crate) fn arithmetic(machine: &mut Machine, op: Arith, form: Form, a: u8, b: u8, c: u8)
     requires { (m : Meaning) → uneven (stands machine.old m) (Arithmetic op form a b c) ≡ false }
     ensures { stands machine.new ≡ (λ m. with_data (arithmetic op form a b c (stands machine.old m)) (stands machine.old m)) }

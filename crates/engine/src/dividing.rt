@@ -1,5 +1,5 @@
-// Division. The step enters an exception where a divisor is zero, so none is here; over zero the quotient
-// would be zero and the remainder x.
+// Division. The step has entered an exception where a divisor is zero, and where the widths of a vector
+// form's types are unequal. Over zero the quotient would be zero and the remainder x.
 ghost use Rattle.std.specs.Prelude.{◌≡◌, false};
 ghost use Rattle.store.specs.Meaning.{Meaning};
 ghost use Rattle.scalar.specs.Arithmetic.{division};
