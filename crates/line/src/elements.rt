@@ -9,6 +9,7 @@ ghost use Rattle.line.specs.Elements.{count as lanes, element as elementOf, put 
 ghost use Rattle.line.specs.Places.{element_number};
 ghost use Rattle.scalar.specs.Casts.{cast};
 
+use crate::kinds::by_kind;
 use crate::places::Place;
 use scalar::lanes::{lane, value};
 use word::ElementType;
@@ -73,20 +74,37 @@ fn number_at(kind: ElementType, place: Place) -> usize
     place.offset() / kind.width()
 }
 
-// The element at a place.
-pub fn get(line: &[u8; 128], kind: ElementType, place: Place) -> i128
+// The element at a place, of a type that is known when built.
+#[inline(always)]
+fn get_as(kind: ElementType, line: &[u8; 128], place: Place) -> i128
     ensures { result ≡ elementOf kind line.now (element_number kind place) }
 {
     value(kind, lane_at(kind, line, number_at(kind, place)))
 }
 
-// Writes z, cast, to the element at a place, which is then read so.
+// The element at a place.
+pub fn get(line: &[u8; 128], kind: ElementType, place: Place) -> i128
+    ensures { result ≡ elementOf kind line.now (element_number kind place) }
+{
+    by_kind!(kind, get_as; line, place)
+}
+
+// Writes z, cast, to the element at a place, of a type that is known when built.
 #[tactic(auto, using(crate::proofs::Readback::written))]
-pub fn put(line: &mut [u8; 128], kind: ElementType, place: Place, z: i128)
+#[inline(always)]
+fn put_as(kind: ElementType, line: &mut [u8; 128], place: Place, z: i128)
     ensures written { line.new ≡ replaced (width kind) line.old (element_number kind place) z }
     ensures read { elementOf kind line.new (element_number kind place) ≡ cast kind z }
 {
     set_lane(kind, line, number_at(kind, place), lane(kind, z))
+}
+
+// Writes z, cast, to the element at a place, which is then read so.
+pub fn put(line: &mut [u8; 128], kind: ElementType, place: Place, z: i128)
+    ensures written { line.new ≡ replaced (width kind) line.old (element_number kind place) z }
+    ensures read { elementOf kind line.new (element_number kind place) ≡ cast kind z }
+{
+    by_kind!(kind, put_as; line, place, z)
 }
 
 // Whether two types have one width. Their elements then have the same bytes: those of one, cast to
