@@ -5,6 +5,7 @@ pub mod Loops
 pub mod OperandAddresses
 pub mod Quotients
 pub mod Raises
+pub mod Records
 pub mod Residues
 pub mod Types
 pub mod VectorForms

@@ -11,12 +11,12 @@ use Rattle.flat.specs.declared.records.StepRecord.{StepRecord}
 use Rattle.engine.specs.Running.{Reached}
 
 -- one step of a loop
-more : (go : Steps → Bool) (n : ℕ) (s : Steps) → go s ≡ true → steps_while go (suc n) s ≡ steps_while go n (one_more s)
+pub more : (go : Steps → Bool) (n : ℕ) (s : Steps) → go s ≡ true → steps_while go (suc n) s ≡ steps_while go n (one_more s)
 unfolding steps_while
 more go n s h = cond-true _ _ _ h
 
 -- a loop that stops
-stops : (go : Steps → Bool) (n : ℕ) (s : Steps) → go s ≡ false → steps_while go n s ≡ s
+pub stops : (go : Steps → Bool) (n : ℕ) (s : Steps) → go s ≡ false → steps_while go n s ≡ s
 unfolding steps_while
 stops go zero s h = refl
 stops go (suc n) s h = cond-false _ _ _ h

@@ -11,7 +11,9 @@ mod dividing;
 mod fetching;
 mod operands;
 mod raising;
+mod recording;
 mod running;
 mod stepping;
 
-pub use running::{MOST_STEPS, run, step};
+pub use recording::{Recorded, step_recorded};
+pub use running::{MOST_STEPS, has_entered, run, step};

@@ -41,7 +41,7 @@ pub fn run<S: Store>(file: &mut File, limit: u32, store: &mut S) -> Result<Ran, 
 }
 
 // Whether a step entered an exception.
-fn has_entered(last: Stepped) -> bool
+pub fn has_entered(last: Stepped) -> bool
     ensures { result ≡ has_entered last }
 {
     match last {
