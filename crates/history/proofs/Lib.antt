@@ -1,0 +1,12 @@
+pub mod Coherence
+pub mod Writing
+pub mod Naming
+pub mod Leaving
+pub mod Moving
+pub mod Operating
+pub mod Stepping
+pub mod Several
+pub mod Calling
+pub mod StoreLaw
+pub mod Shows
+pub mod Feeding

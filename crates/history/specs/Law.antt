@@ -1,0 +1,59 @@
+-- The law over whole histories. Whatever calls are made of the engine, in whatever order and with whatever they are given, refused ones too, from a cold file on and on one store, plain or layered:
+--
+-- a. Every answer, every refusal, everything shown and everything traced is what the flat machine gives that is fed the same calls, and the file that is left stands for the machine that is left. The flat machine starts cold and unmarked, with the store's lines as they stood before the first call; from then on it gets the calls and, of the trails, the space left, and nothing of the file or the store.
+--
+-- b. The store holds what the flat machine's backing copy holds. After an accepted flush or halt that is its memory too. Any other call changes a line of the store only if, in one of its steps as the flat machine takes them, the line's last data register leaves it, and then the line holds the bytes that memory held when this last happened.
+--
+-- c. In a warm file two data registers carry one tag exactly when they name one line, and the count of a tag is the number of registers that carry it; so too the instruction registers. Zero registers are excepted: they carry no tag.
+--
+-- Every list of calls is the beginning of longer ones, so what is said after a list is said after each of its calls.
+use Rattle.std.specs.Prelude.{◌≡◌, ◌↔◌, ℕ, ◌<◌, false, List, ◌∷◌, ◌++◌, Result, slice_index}
+use Rattle.refusal.specs.declared.Refusal.{Refusal}
+use Rattle.store.specs.Meaning.{Meaning}
+use Rattle.trail.specs.declared.Trail.{Trail}
+use Rattle.trail.specs.Trails.{Added}
+use Rattle.flat.specs.Calls.{backing}
+use Rattle.flat.specs.Registers.{is_zero, line_of}
+use Rattle.flat.specs.declared.records.StepRecord.{StepRecord}
+use Rattle.tags.specs.Invariants.{carriers}
+use Rattle.tags.specs.declared.bank.Bank.{Bank}
+use Rattle.file.specs.Files.{stands}
+use Rattle.file.specs.declared.file.File.{File}
+use Rattle.file.specs.declared.file.File.TheVariants.{Cold, Warm}
+use Rattle.history.specs.Fed.{Fed, fed, next}
+use Rattle.history.specs.Leaving.{StoreAfter}
+use Rattle.history.specs.declared.answer.Answer.{Answer}
+use Rattle.history.specs.declared.call.Call.{Call}
+
+-- a. h is what the flat machine was fed; the store meant m after the last call.
+pub record Answers (h : Fed) (answers_before answers_after : Trail (Result Answer Refusal)) (steps_before steps_after : Trail StepRecord) (lines_before lines_after : Trail ℕ) (file : File) (m : Meaning) : Type 0 where
+  pub answers : Added answers_before answers_after h.answers
+  pub traced : Added steps_before steps_after h.records
+  pub sent : Added lines_before lines_after h.sent
+  pub machine : stands file m ≡ h.flat
+
+-- b. The trails had these spaces, and the store meant `before` before the first call and `after` after the last.
+pub record StoreKept (steps_space lines_space : ℕ) (calls : List Call) (before after : Meaning) : Type 0 where
+  pub backing : after ≡ backing (fed steps_space lines_space calls before).flat
+  pub each : (earlier : List Call) (call : Call) (later : List Call) → calls ≡ earlier ++ call ∷ later → let h = fed steps_space lines_space earlier before in StoreAfter h.flat (next steps_space lines_space h call)
+
+-- The tag that a register carries, the line that it names, and the count that is kept of a tag.
+abbrev pub tag : Bank → ℕ → ℕ
+tag b r = slice_index b.columns.carried r
+
+abbrev pub line : Bank → ℕ → ℕ
+line b r = line_of (slice_index b.columns.addresses r)
+
+abbrev pub count : Bank → ℕ → ℕ
+count b t = slice_index b.columns.counts t
+
+-- Of the registers of one kind.
+pub record TagsRight (b : Bank) : Type 0 where
+  pub shared : (q r : ℕ) → q < 128 → r < 128 → is_zero q ≡ false → is_zero r ≡ false → (tag b q ≡ tag b r) ↔ (line b q ≡ line b r)
+  pub counted : (t : ℕ) → 0 < t → t < 128 → count b t ≡ carriers b.columns.carried t
+  pub zero_registers : (tag b 0 ≡ 0) × (tag b 64 ≡ 0)
+
+-- c. Of a file.
+abbrev pub AllTagsRight : File → Type 0
+AllTagsRight Cold = Unit {0}
+AllTagsRight (Warm m) = TagsRight m.registers.bank × TagsRight m.instructions.bank

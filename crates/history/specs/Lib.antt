@@ -1,0 +1,4 @@
+pub mod Fed
+pub mod Made
+pub mod Leaving
+pub mod Law
