@@ -18,40 +18,40 @@ pub const MODES: [Mode; 2] = [Mode::User, Mode::Supervisor];
 pub const LINES: [[u8; 128]; 4] = [[1; 128], [2; 128], [3; 128], [4; 128]];
 
 // The word of an operation, and an undefined word where none holds it.
-pub fn w(op: Operation) -> u32 {
+pub(crate) fn w(op: Operation) -> u32 {
     code(op).unwrap_or(0xFFFF_FFFF)
 }
 
-pub fn load(kind: ElementType, a: u8, b: u8, i: i16) -> u32 {
+pub(crate) fn load(kind: ElementType, a: u8, b: u8, i: i16) -> u32 {
     w(Operation::Load { kind, a, b, i })
 }
 
-pub fn store(kind: ElementType, a: u8, b: u8, i: i16) -> u32 {
+pub(crate) fn store(kind: ElementType, a: u8, b: u8, i: i16) -> u32 {
     w(Operation::Store { kind, a, b, i })
 }
 
-pub fn dup(kind: ElementType, a: u8, b: u8) -> u32 {
+pub(crate) fn dup(kind: ElementType, a: u8, b: u8) -> u32 {
     w(Operation::Dup { kind, a, b })
 }
 
-pub fn fetch(a: u8, b: u8, i: i16, j: u8) -> u32 {
+pub(crate) fn fetch(a: u8, b: u8, i: i16, j: u8) -> u32 {
     w(Operation::Fetch { a, b, i, j })
 }
 
-pub fn jump_zero(a: u8, b: u8, w: u8) -> u32 {
+pub(crate) fn jump_zero(a: u8, b: u8, w: u8) -> u32 {
     self::w(Operation::JumpZero { a, b, w })
 }
 
-pub fn jump_not_zero(a: u8, b: u8, w: u8) -> u32 {
+pub(crate) fn jump_not_zero(a: u8, b: u8, w: u8) -> u32 {
     self::w(Operation::JumpNotZero { a, b, w })
 }
 
-pub fn hand(b: u8, w: u8) -> u32 {
+pub(crate) fn hand(b: u8, w: u8) -> u32 {
     self::w(Operation::Hand { b, w })
 }
 
 // The number of a register that a field names in a mode.
-pub fn number(mode: Mode, field: u8) -> u8 {
+pub(crate) fn number(mode: Mode, field: u8) -> u8 {
     match mode {
         Mode::User => field,
         Mode::Supervisor => field.saturating_add(64),
@@ -59,7 +59,7 @@ pub fn number(mode: Mode, field: u8) -> u8 {
 }
 
 // How many words come before a program: in user mode, hand to the third word and retx.
-pub fn lead(mode: Mode) -> u32 {
+pub(crate) fn lead(mode: Mode) -> u32 {
     match mode {
         Mode::User => 2,
         Mode::Supervisor => 0,
@@ -67,7 +67,7 @@ pub fn lead(mode: Mode) -> u32 {
 }
 
 // The address of the word after a number of words of a program.
-pub fn after(mode: Mode, words: u32) -> u32 {
+pub(crate) fn after(mode: Mode, words: u32) -> u32 {
     lead(mode).saturating_add(words).saturating_mul(4)
 }
 
@@ -76,7 +76,7 @@ fn word_at(program: &[u32], k: usize) -> u32 {
 }
 
 // The words of line 0: a program to be run in a mode, and word 31.
-pub fn laid(mode: Mode, program: &[u32], last: u32) -> [u32; 32] {
+pub(crate) fn laid(mode: Mode, program: &[u32], last: u32) -> [u32; 32] {
     std::array::from_fn(|k| match (mode, k) {
         (_, 31) => last,
         (Mode::Supervisor, _) => word_at(program, k),
@@ -94,12 +94,12 @@ fn byte(words: &[u32; 32], lines: &[[u8; 128]; 4], k: usize) -> u8 {
 }
 
 // A store of eight lines: the words, four lines, and zeros.
-pub fn memory(words: &[u32; 32], lines: &[[u8; 128]; 4]) -> [u8; 1024] {
+pub(crate) fn memory(words: &[u32; 32], lines: &[[u8; 128]; 4]) -> [u8; 1024] {
     std::array::from_fn(|k| byte(words, lines, k))
 }
 
 // A line of one element, filled up around it.
-pub fn one(kind: ElementType, place: usize, bits: u64) -> [u8; 128] {
+pub(crate) fn one(kind: ElementType, place: usize, bits: u64) -> [u8; 128] {
     let width = usize::from(kind.width());
     std::array::from_fn(|k| {
         if width > 0 && k / width == place / width {
@@ -111,7 +111,7 @@ pub fn one(kind: ElementType, place: usize, bits: u64) -> [u8; 128] {
 }
 
 // A line of two elements in turn.
-pub fn pairs(kind: ElementType, bits: [u64; 2]) -> [u8; 128] {
+pub(crate) fn pairs(kind: ElementType, bits: [u64; 2]) -> [u8; 128] {
     let width = usize::from(kind.width());
     std::array::from_fn(|k| {
         if width > 0 {
@@ -123,7 +123,7 @@ pub fn pairs(kind: ElementType, bits: [u64; 2]) -> [u8; 128] {
 }
 
 // Boots a store and makes a number of steps of the program, all of which are done.
-pub fn started<S: Store>(rt: &impl Abort, mode: Mode, steps: u32, store: &mut S) -> File {
+pub(crate) fn started<S: Store>(rt: &impl Abort, mode: Mode, steps: u32, store: &mut S) -> File {
     let mut file = File::Cold;
     assert_eq!(rt; file.boot(store), Ok(()));
     let steps = lead(mode).saturating_add(steps);
@@ -133,7 +133,7 @@ pub fn started<S: Store>(rt: &impl Abort, mode: Mode, steps: u32, store: &mut S)
 }
 
 // The next step enters an exception.
-pub fn check_enters<S: Store>(
+pub(crate) fn check_enters<S: Store>(
     rt: &impl Abort,
     file: &mut File,
     exception: Exception,
@@ -147,14 +147,14 @@ pub fn check_enters<S: Store>(
 }
 
 // The mode, the address of its ipc, and xct.
-pub fn check_at(rt: &impl Abort, file: &File, mode: Mode, address: u32, xct: u32) {
+pub(crate) fn check_at(rt: &impl Abort, file: &File, mode: Mode, address: u32, xct: u32) {
     assert_eq!(rt; file.show_rest().map(|rest| rest.mode), Ok(mode));
     assert_eq!(rt; file.show_rest().map(|rest| rest.xct), Ok(xct));
     check_code(rt, file, number(mode, 63), address);
 }
 
 // The address of an instruction register.
-pub fn check_code(rt: &impl Abort, file: &File, number: u8, address: u32) {
+pub(crate) fn check_code(rt: &impl Abort, file: &File, number: u8, address: u32) {
     assert_eq!(rt;
         file.show_instruction(number).map(|shown| shown.address),
         Ok(address)
@@ -162,7 +162,7 @@ pub fn check_code(rt: &impl Abort, file: &File, number: u8, address: u32) {
 }
 
 // The word at a place of an instruction register.
-pub fn check_word(rt: &impl Abort, file: &File, number: u8, place: usize, word: u32) {
+pub(crate) fn check_word(rt: &impl Abort, file: &File, number: u8, place: usize, word: u32) {
     match file.show_instruction(number) {
         Ok(shown) => assert_eq!(rt; shown.words.get(place), Some(&word)),
         Err(_) => panic!(rt; "a cold file"),
@@ -170,7 +170,7 @@ pub fn check_word(rt: &impl Abort, file: &File, number: u8, place: usize, word: 
 }
 
 // What a data register shows.
-pub fn check_data(rt: &impl Abort, file: &File, number: u8, data: (u32, ElementType, [u8; 128])) {
+pub(crate) fn check_data(rt: &impl Abort, file: &File, number: u8, data: (u32, ElementType, [u8; 128])) {
     let (address, kind, bytes) = data;
     let shown = ShownData {
         address,
@@ -181,7 +181,7 @@ pub fn check_data(rt: &impl Abort, file: &File, number: u8, data: (u32, ElementT
 }
 
 // The bytes of a line of a store.
-pub fn check_stored<S: Store>(rt: &impl Abort, store: &S, line: u32, bytes: [u8; 128]) {
+pub(crate) fn check_stored<S: Store>(rt: &impl Abort, store: &S, line: u32, bytes: [u8; 128]) {
     let mut out = [0; 128];
     assert_eq!(rt; store.read(line, &mut out).is_ok(), true);
     assert_eq!(rt; out, bytes);

@@ -62,14 +62,14 @@ fn print_instructions(rt: &HostRuntime, file: &File) -> Result<(), Failure> {
 }
 
 // Prints all that a warm file shows.
-pub fn print_machine(rt: &HostRuntime, file: &File) -> Result<(), Failure> {
+pub(crate) fn print_machine(rt: &HostRuntime, file: &File) -> Result<(), Failure> {
     print_control(rt, &file.show_rest()?)?;
     print_data(rt, file)?;
     print_instructions(rt, file)
 }
 
 // Prints each line of a store that is not zeros.
-pub fn print_store<S: Store>(rt: &HostRuntime, store: &S) -> Result<(), Failure> {
+pub(crate) fn print_store<S: Store>(rt: &HostRuntime, store: &S) -> Result<(), Failure> {
     let mut bytes = zeros();
     for line in 0..store.size() {
         store.read(line, &mut bytes)?;
