@@ -9,6 +9,6 @@ pub mod dividing;
 pub mod lanes;
 pub mod operations;
 
-pub use computing::compute;
+pub use computing::{compute, compute_lane};
 pub use dividing::{Division, divide, is_zero};
 pub use lanes::cast;
