@@ -1,17 +1,20 @@
--- What a machine stands for once a vector form has changed its data registers.
+-- What a machine stands for once arithmetic has changed its data registers.
 use Rattle.std.proofs.Math.Path.{fun_ext}
-use Rattle.std.proofs.Common.{◌≡◌, ℕ, ◌/◌, ◌%◌, false, List, [], ◌∷◌, ℤ, ◌≢◌, refl, sym, subst, ap, ap₂, ◌∙◌}
+use Rattle.std.proofs.Common.{◌≡◌, ℕ, ◌*◌, ◌/◌, ◌%◌, false, List, [], ◌∷◌, ℤ, pos, ◌≢◌, refl, sym, subst, ap, ap₂, ◌∙◌}
 use Rattle.store.specs.Meaning.{Meaning}
-use Rattle.word.specs.Types.{width}
+use Rattle.word.specs.Types.{width, bits}
 use Rattle.word.specs.declared.element.ElementType.{ElementType}
 use Rattle.word.specs.declared.opcodes.Arith.{Arith}
-use Rattle.word.specs.declared.opcodes.Form.TheVariants.{Vector}
+use Rattle.word.specs.declared.opcodes.Form.TheVariants.{Scalar, Vector}
 use Rattle.word.specs.declared.opcodes.Arith.TheVariants.{Addr}
 use Rattle.word.specs.declared.operations.Operation.{Operation}
 use Rattle.word.specs.declared.operations.Operation.TheVariants.{Arith as Arithmetic, Div}
 use Rattle.scalar.specs.Arithmetic.{remainder}
+use Rattle.scalar.specs.Casts.{cast, residue}
+use Rattle.scalar.proofs.Casts.{cast-cast, residue-cast}
+use Rattle.line.specs.Elements.{bytes, splice}
 use Rattle.line.specs.Vectors.{line_of, row}
-use Rattle.flat.specs.Data.{Data, write}
+use Rattle.flat.specs.Data.{Data, place, shown, write, write_element}
 use Rattle.flat.specs.Machine.{Machine as Flat, with_data}
 use Rattle.flat.specs.Operations.{arithmetic, divide}
 use Rattle.flat.specs.Raising.{even, uneven, uneven_widths}
@@ -22,7 +25,7 @@ use Rattle.file.specs.Machine.{stands}
 use Rattle.file.specs.Standing.{data_of}
 use Rattle.file.specs.declared.data.DataRegisters.{DataRegisters}
 use Rattle.file.specs.declared.machine.Machine.{Machine}
-use Rattle.engine.specs.Arithmetic.{AsWide, kind, element_at, quotients_of, remainders_of, results_of}
+use Rattle.engine.specs.Arithmetic.{AsWide, kind, element_at, quotients_of, remainders_of, result_of, results_of}
 use Rattle.engine.proofs.Vectors.{first_wide, second_wide, div_first_wide, div_second_wide, div_last_wide}
 
 -- a machine with other data registers
@@ -32,6 +35,25 @@ with_registers f g i e after h =
     fun_ext (λ m.
     ap (λ d. with_data d (stands g m)) (h m)
     ∙ ap₂ (λ j k. record { data_registers = after (stands f m); instructions = instructions_stand j; control = k }) i e)
+
+-- an element is written alike by numbers that are cast alike
+written_alike : (d : Data) (r : ℕ) (x z : ℤ) → cast (kind d r) x ≡ cast (kind d r) z → write_element r x d ≡ write_element r z d
+unfolding write_element
+written_alike d r x z e =
+    let t = kind d r in
+    let same : residue (bits t) x ≡ residue (bits t) z = sym (residue-cast t x) ∙ ap (residue (bits t)) e ∙ residue-cast t z in
+    ap (λ m. write r (splice (shown d r) (place (d.registers r) * width t) (bytes (width t) m)) d) same
+
+-- a scalar form, of which a lane of the result is written
+pub scalar_stands : (f g : Machine) (op : Arith) (a b c x y z lane : ℕ) → shows g.registers ≡ (λ m. write_element x (pos lane) (shows f.registers m)) → ((m : Meaning) → cast (kind (shows f.registers m) x) (pos lane) ≡ result_of (shows f.registers m) op x y z) → x ≡ of_mode f.control.mode (a % 64) → y ≡ of_mode f.control.mode (b % 64) → z ≡ of_mode f.control.mode (c % 64) → g.instructions ≡ f.instructions → g.control ≡ f.control → stands g ≡ (λ m. with_data (arithmetic op Scalar a b c (stands f m)) (stands f m))
+unfolding stands arithmetic
+scalar_stands f g op a b c x y z lane h made e_x e_y e_z i e =
+    with_registers f g i e (arithmetic op Scalar a b c) (λ m.
+    let d = shows f.registers m in
+    ap (λ s. s m) h
+    ∙ written_alike d x (pos lane) (result_of d op x y z) (made m ∙ sym (cast-cast (kind d x) _))
+    ∙ ap₂ (λ q r. write_element x (result_of d op x q r) d) e_y e_z
+    ∙ ap (λ p. write_element p (result_of d op p (of_mode f.control.mode (b % 64)) (of_mode f.control.mode (c % 64))) d) e_x)
 
 -- a vector form
 pub vector_stands : (f g : Machine) (op : Arith) (a b c x y z : ℕ) (out : List ℕ) → shows g.registers ≡ (λ m. write x out (shows f.registers m)) → ((m : Meaning) → out ≡ results_of (shows f.registers m) op x y z) → x ≡ of_mode f.control.mode (a % 64) → y ≡ of_mode f.control.mode (b % 64) → z ≡ of_mode f.control.mode (c % 64) → g.instructions ≡ f.instructions → g.control ≡ f.control → stands g ≡ (λ m. with_data (arithmetic op Vector a b c (stands f m)) (stands f m))

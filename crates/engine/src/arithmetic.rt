@@ -1,6 +1,7 @@
 // Arithmetic and reductions. A vector form is carried out where the widths of its registers' types are
 // equal; the step has entered an exception where they are not.
-ghost use Rattle.std.specs.Prelude.{◌≡◌, ◌≢◌, false};
+ghost use Rattle.std.specs.Prelude.{◌≡◌, ◌≢◌, false, pos};
+ghost use Rattle.scalar.specs.Casts.{cast};
 ghost use Rattle.store.specs.Meaning.{Meaning};
 ghost use Rattle.flat.specs.Machine.{with_data};
 ghost use Rattle.flat.specs.Operations.{arithmetic, data_after};
@@ -10,12 +11,12 @@ ghost use Rattle.file.specs.Machine.{stands};
 ghost use Rattle.word.specs.declared.opcodes.Arith.TheVariants.{Addr};
 ghost use Rattle.word.specs.declared.opcodes.Form.TheVariants.{Scalar, Vector};
 ghost use Rattle.word.specs.declared.operations.Operation.TheVariants.{Arith as Arithmetic, Reduce};
-ghost use Rattle.engine.specs.Arithmetic.{AsWide, first_of, reduction_of, result_of, results_of};
+ghost use Rattle.engine.specs.Arithmetic.{AsWide, kind, first_of, reduction_of, result_of, results_of};
 
-use crate::changes::{element, put_element, put_line};
+use crate::changes::{element, put_element, put_lane, put_line};
 use file::{DataRegisters, Machine};
 use line::{reduce as reduce_line, vector, vector_addr, zeros};
-use scalar::compute;
+use scalar::compute_lane;
 use tags::Register;
 use word::{Arith, Form, Reduction};
 
@@ -29,19 +30,19 @@ fn first_operand(registers: &DataRegisters, op: Arith, b: Register) -> i128
     }
 }
 
-// The result of a scalar form.
+// A lane of the result of a scalar form.
 fn element_result(
     registers: &DataRegisters,
     op: Arith,
     a: Register,
     b: Register,
     c: Register,
-) -> i128
-    ensures { (m : Meaning) → result ≡ result_of (shows registers.now m) op a.number b.number c.number }
+) -> u64
+    ensures { (m : Meaning) → cast (kind (shows registers.now m) a.number) (pos result) ≡ result_of (shows registers.now m) op a.number b.number c.number }
 {
     let x = first_operand(registers, op, b);
     let y = element(registers, c);
-    compute(op, registers.register(a).kind, x, y)
+    compute_lane(op, registers.register(a).kind, x, y)
 }
 
 // The line of results of a vector form.
@@ -67,7 +68,6 @@ fn line_result(
 }
 
 // A scalar form.
-#[tactic(auto, unfolding(file::specs::Machine::stands, flat::specs::Operations::arithmetic))]
 fn arithmetic_scalar(machine: &mut Machine, op: Arith, a: u8, b: u8, c: u8)
     ensures { stands machine.new ≡ (λ m. with_data (arithmetic op Scalar a b c (stands machine.old m)) (stands machine.old m)) }
 {
@@ -75,8 +75,8 @@ fn arithmetic_scalar(machine: &mut Machine, op: Arith, a: u8, b: u8, c: u8)
     let a = Register::of(mode, a);
     let b = Register::of(mode, b);
     let c = Register::of(mode, c);
-    let z = element_result(&machine.registers, op, a, b, c);
-    put_element(&mut machine.registers, a, z);
+    let lane = element_result(&machine.registers, op, a, b, c);
+    put_lane(&mut machine.registers, a, lane);
 }
 
 // A vector form.

@@ -1,5 +1,5 @@
 // The element that a register shows, and changes of the bytes of a register's line.
-ghost use Rattle.std.specs.Prelude.{◌≡◌, length};
+ghost use Rattle.std.specs.Prelude.{◌≡◌, length, pos};
 ghost use Rattle.word.specs.Types.{width};
 ghost use Rattle.line.specs.Elements.{put as replaced};
 ghost use Rattle.line.specs.Places.{element_number};
@@ -66,6 +66,14 @@ pub(crate) fn put_element(registers: &mut DataRegisters, register: Register, z: 
     let DataRegister { address, kind } = registers.register(register);
     let place = Place::from(address);
     registers.write(register, &PutElement { kind, place, z });
+}
+
+// Writes a lane to a register's element.
+#[tactic(auto, using(scalar::proofs::Casts::passed_on))]
+pub(crate) fn put_lane(registers: &mut DataRegisters, register: Register, lane: u64)
+    ensures { stands registers.new ≡ (λ m. write_element register.number (pos lane) (stands registers.old m)) }
+{
+    put_element(registers, register, i128::from(lane));
 }
 
 // Writes a register's whole line.

@@ -24,6 +24,7 @@ use word::{Arith, Form, Operation, Reduction};
 
 // Hand, reti, retx and cpy are the supervisor's.
 #[tactic(auto, unfolding(flat::specs::Raising::reserved))]
+#[inline(always)]
 fn forbidden(mode: Mode, op: Operation) -> Option<Exception>
     ensures { result ≡ forbidden mode op }
 {
@@ -49,6 +50,7 @@ fn is_wide(machine: &Machine, field: u8) -> bool
 
 // Whether a register that must not be is 64 bits wide.
 #[tactic(auto, unfolding(flat::specs::Raising::too_wide, flat::specs::Raising::narrow))]
+#[inline(always)]
 fn too_wide(machine: &Machine, op: Operation) -> bool
     ensures { (m : Meaning) → result ≡ too_wide (stands machine.now m) op }
 {
@@ -79,6 +81,7 @@ fn differs(machine: &Machine, field: u8, a: u8) -> bool
 
 // Whether the widths of a vector form are unequal.
 #[tactic(auto, unfolding(flat::specs::Raising::even, flat::specs::Raising::uneven_widths))]
+#[inline(always)]
 fn uneven(machine: &Machine, op: Operation) -> bool
     ensures { (m : Meaning) → result ≡ uneven (stands machine.now m) op }
 {
@@ -110,6 +113,7 @@ fn uneven(machine: &Machine, op: Operation) -> bool
 
 // Load, store or fetch of a line that is not below the store's size.
 #[tactic(auto, using(crate::proofs::Raises::over_store), unfolding(flat::specs::Raising::missing))]
+#[inline(always)]
 fn missing<S: Store>(machine: &Machine, op: Operation, store: &S) -> bool
     ensures { result ≡ missing (stands machine.now (S.meaning store.now)) op }
 {
@@ -161,6 +165,7 @@ fn own_fixed<S: Store>(machine: &Machine, field: u8, store: &S) -> bool
 
 // Bytes written to a line that cannot be written.
 #[tactic(auto, using(crate::proofs::Raises::over_store), unfolding(flat::specs::Raising::fixed, file::specs::Machine::stands))]
+#[inline(always)]
 fn fixed<S: Store>(machine: &Machine, op: Operation, store: &S) -> bool
     ensures { result ≡ fixed (stands machine.now (S.meaning store.now)) op }
 {
@@ -180,6 +185,7 @@ fn fixed<S: Store>(machine: &Machine, op: Operation, store: &S) -> bool
 // A divisor that is zero after its cast. (Types of unequal width are refused before, and elements of types
 // of equal width are those of the one type cast to the other.)
 #[tactic(auto, using(scalar::proofs::Casts::passed_on), unfolding(flat::specs::Raising::by_zero))]
+#[inline(always)]
 fn by_zero(machine: &Machine, op: Operation) -> bool
     requires { (m : Meaning) → uneven (stands machine.now m) op ≡ false }
     ensures { (m : Meaning) → result ≡ by_zero (stands machine.now m) op }
@@ -195,6 +201,7 @@ fn by_zero(machine: &Machine, op: Operation) -> bool
 
 // A jump if not zero is taken when dA's element is not zero, a jump if zero when it is.
 #[tactic(auto, unfolding(flat::specs::Raising::is_taken))]
+#[inline(always)]
 pub(crate) fn is_taken(machine: &Machine, op: Operation) -> bool
     ensures { (m : Meaning) → result ≡ is_taken (stands machine.now m) op }
 {
@@ -207,6 +214,7 @@ pub(crate) fn is_taken(machine: &Machine, op: Operation) -> bool
 
 // ipc goes to the next word after every operation but a taken jump, reti and retx.
 #[tactic(auto, unfolding(flat::specs::Raising::moves_on))]
+#[inline(always)]
 pub(crate) fn moves_on(machine: &Machine, op: Operation) -> bool
     ensures { (m : Meaning) → result ≡ moves_on (stands machine.now m) op }
 {
@@ -228,6 +236,7 @@ fn is_named(machine: &Machine, line: u32) -> bool
 
 // ipc would pass word 31, and no instruction register names the next line.
 #[tactic(auto, unfolding(flat::specs::Raising::no_next_line))]
+#[inline(always)]
 fn no_next_line(machine: &Machine, op: Operation) -> bool
     ensures { (m : Meaning) → result ≡ no_next_line (stands machine.now m) op }
 {
@@ -238,6 +247,7 @@ fn no_next_line(machine: &Machine, op: Operation) -> bool
 
 // The first exception that applies.
 #[tactic(auto, unfolding(flat::specs::Raising::raised, flat::specs::Raising::first, file::specs::Machine::stands))]
+#[inline(always)]
 pub(crate) fn raised<S: Store>(machine: &Machine, op: Operation, store: &S) -> Option<Exception>
     ensures { result ≡ raised (stands machine.now (S.meaning store.now)) op }
 {

@@ -27,6 +27,7 @@ pub(crate) struct AfterStep {
 
 // Carries out an operation that raises no exception, and answers the line that was sent back, if any. ipc
 // moves on first, where it does; what jumps and hand read of it is read before.
+#[inline(always)]
 fn carry_out<S: Store>(machine: &mut Machine, op: Operation, store: &mut S) -> Option<u32>
     requires { uneven (stands machine.old (S.meaning store.old)) op ≡ false }
     ensures machine { stands machine.new (S.meaning store.new) ≡ carried_out op (stands machine.old (S.meaning store.old)) }
@@ -97,6 +98,7 @@ fn enter<S: Store>(machine: &mut Machine, exception: Exception, store: &S) -> Af
 
 // Carries out an operation that raises no exception; swi then enters its own.
 #[tactic(auto, using(crate::proofs::Doing::doing))]
+#[inline(always)]
 fn do_operation<S: Store>(machine: &mut Machine, op: Operation, store: &mut S) -> AfterStep
     requires { uneven (stands machine.old (S.meaning store.old)) op ≡ false }
     ensures { Did (does op (stands machine.old (S.meaning store.old))) (stands machine.new (S.meaning store.new)) result }
@@ -111,14 +113,43 @@ fn do_operation<S: Store>(machine: &mut Machine, op: Operation, store: &mut S) -
     }
 }
 
-// Enters the first exception that an operation raises, or carries it out.
+// Enters the first exception that an operation raises, or carries it out. It is inlined where the kind of
+// operation is written out, and with it all that matches on the operation, which then asks only what that
+// kind can raise.
 #[tactic(auto, using(crate::proofs::Doing::obeying), unfolding(flat::specs::Step::obeyed, flat::specs::Step::obeyed_unless))]
-fn obey<S: Store>(machine: &mut Machine, op: Operation, store: &mut S) -> AfterStep
+#[inline(always)]
+fn obey_as<S: Store>(machine: &mut Machine, op: Operation, store: &mut S) -> AfterStep
     ensures { Did (obeyed (Some op) (stands machine.old (S.meaning store.old))) (stands machine.new (S.meaning store.new)) result }
 {
     match raised(machine, op, store) {
         Some(exception) => enter(machine, exception, store),
         None => do_operation(machine, op, store),
+    }
+}
+
+// Enters the first exception that an operation raises, or carries it out. What loops are mostly made of is
+// compiled for each kind of operation.
+fn obey<S: Store>(machine: &mut Machine, op: Operation, store: &mut S) -> AfterStep
+    ensures { Did (obeyed (Some op) (stands machine.old (S.meaning store.old))) (stands machine.new (S.meaning store.new)) result }
+{
+    match op {
+        Operation::Arith { op, form, a, b, c } => {
+            obey_as(machine, Operation::Arith { op, form, a, b, c }, store)
+        }
+        Operation::Load { kind, a, b, i } => {
+            obey_as(machine, Operation::Load { kind, a, b, i }, store)
+        }
+        Operation::Store { kind, a, b, i } => {
+            obey_as(machine, Operation::Store { kind, a, b, i }, store)
+        }
+        Operation::Dup { kind, a, b } => obey_as(machine, Operation::Dup { kind, a, b }, store),
+        Operation::JumpNotZero { a, b, w } => {
+            obey_as(machine, Operation::JumpNotZero { a, b, w }, store)
+        }
+        Operation::JumpZero { a, b, w } => {
+            obey_as(machine, Operation::JumpZero { a, b, w }, store)
+        }
+        _ => obey_as(machine, op, store),
     }
 }
 

@@ -103,6 +103,21 @@ cast_from_residue t z m e = ap (λ n. cast t (pos n)) e ∙ cast-residue t z
 
 pub ruleset from_wide = (residue_wide, cast_from_residue)
 
+-- the lowest 64 bits of a number are cast as the number is
+cast_lowest : (t : ElementType) (z : ℤ) → cast t (pos (residue 64 z)) ≡ cast t z
+cast_lowest t z = cast_same t (pos (residue 64 z)) z (residue_fewer (bits t) 64 z (bits_high t))
+
+-- a lane that is made of the lowest bits of two numbers
+pub made_of_lowest : (t : ElementType) (make : ℕ → ℤ → ℤ → ℤ) (x y : ℤ) (a b m : ℕ) → SFits w128 x → SFits w128 y → a ≡ residue 64 (to_z w128 (of_z w128 x)) → b ≡ residue 64 (to_z w128 (of_z w128 y)) → m ≡ residue (bits t) (make (bits t) (cast t (pos a)) (cast t (pos b))) → cast t (pos m) ≡ cast t (make (bits t) (cast t x) (cast t y))
+made_of_lowest t make x y a b m f g e_a e_b e =
+    let on_x = ap (λ n. cast t (pos n)) e_a ∙ cast_lowest t (to_z w128 (of_z w128 x)) ∙ ap (cast t) (to_z-of_z w128 x f) in
+    let on_y = ap (λ n. cast t (pos n)) e_b ∙ cast_lowest t (to_z w128 (of_z w128 y)) ∙ ap (cast t) (to_z-of_z w128 y g) in
+    cast_from_residue t (make (bits t) (cast t (pos a)) (cast t (pos b))) m e
+    ∙ ap (λ v. cast t (make (bits t) v (cast t (pos b)))) on_x
+    ∙ ap (λ v. cast t (make (bits t) (cast t x) v)) on_y
+
+pub ruleset lanes_of_numbers = (made_of_lowest)
+
 -- the bits of a signed number, cut to fewer, are its residue
 pub residue-bits : (w : Width) (n : ℕ) (z : ℤ) → n ≤ val.bits w → SFits w z → of_z w z % 2 ^ n ≡ residue n z
 residue-bits w n (pos a) h f = sym (residue-pos n a)

@@ -1,23 +1,25 @@
 // The operations of two operands on numbers.
 ghost use Rattle.scalar.specs.Arithmetic.{applied, computed};
-ghost use Rattle.std.specs.Prelude.{◌≡◌};
+ghost use Rattle.scalar.specs.Casts.{cast};
+ghost use Rattle.std.specs.Prelude.{◌≡◌, pos};
 
-use crate::lanes::{lane, value};
+use crate::lanes::{low_bits, value};
 use crate::operations::*;
 use word::{Arith, ElementType};
 
-// One operation on numbers of any types, which are cast to the type.
-#[tactic(auto, using(crate::proofs::Casts::passed_on))]
-fn apply<O: Operation>(kind: ElementType, x: i128, y: i128) -> i128
-    ensures { result ≡ applied O.make kind x y }
+// The lane of one operation on numbers of any types, which are cast to the type: their lowest 64 bits are
+// lanes that stand for them.
+#[tactic(auto, using(crate::proofs::Casts::lanes_of_numbers))]
+fn apply<O: Operation>(kind: ElementType, x: i128, y: i128) -> u64
+    ensures { cast kind (pos result) ≡ applied O.make kind x y }
 {
-    value(kind, O::apply(kind, lane(kind, x), lane(kind, y)))
+    O::apply(kind, low_bits(x), low_bits(y))
 }
 
-// What an operation of two operands gives at a type. For addr, x is the address. (The operation is
-// picked here once, by a match, so that no value that stands for it is called below.)
-pub fn compute(op: Arith, kind: ElementType, x: i128, y: i128) -> i128
-    ensures { result ≡ computed op kind x y }
+// The lane of what an operation of two operands gives at a type. For addr, x is the address. (The
+// operation is picked here once, by a match, so that no value that stands for it is called below.)
+pub fn compute_lane(op: Arith, kind: ElementType, x: i128, y: i128) -> u64
+    ensures { cast kind (pos result) ≡ computed op kind x y }
 {
     match op {
         Arith::Add | Arith::Addr => apply::<Add>(kind, x, y),
@@ -32,4 +34,11 @@ pub fn compute(op: Arith, kind: ElementType, x: i128, y: i128) -> i128
         Arith::Rol => apply::<Rol>(kind, x, y),
         Arith::Ror => apply::<Ror>(kind, x, y),
     }
+}
+
+// What an operation of two operands gives at a type.
+pub fn compute(op: Arith, kind: ElementType, x: i128, y: i128) -> i128
+    ensures { result ≡ computed op kind x y }
+{
+    value(kind, compute_lane(op, kind, x, y))
 }

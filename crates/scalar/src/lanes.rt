@@ -41,7 +41,7 @@ pub fn value(kind: ElementType, x: u64) -> i128
 }
 
 // The lowest 64 bits of z.
-fn low_bits(z: i128) -> u64
+pub(crate) fn low_bits(z: i128) -> u64
     ensures { result ≡ residue 64 z }
 {
     (z.cast_unsigned() & 0xffff_ffff_ffff_ffff) as u64

@@ -1,7 +1,8 @@
 // The arithmetic of single numbers: casts to the types of elements, the operations of two operands,
-// and division with its remainder. Numbers go in and out as i128, which holds every type. Below
-// that lies `lanes`, arithmetic on the bits of one element, which the vector forms use too. It uses
-// `word` for the types and the names of the operations.
+// and division with its remainder. Numbers go in and out as i128, which holds every type, but that
+// `compute_lane` answers a lane of the result, for a caller that only writes it. Below that lies `lanes`,
+// arithmetic on the bits of one element, which the vector forms use too. It uses `word` for the types and
+// the names of the operations.
 #![tactic(auto)]
 
 mod computing;
@@ -9,6 +10,6 @@ pub mod dividing;
 pub mod lanes;
 pub mod operations;
 
-pub use computing::compute;
+pub use computing::{compute, compute_lane};
 pub use dividing::{Division, divide, is_zero};
 pub use lanes::cast;
