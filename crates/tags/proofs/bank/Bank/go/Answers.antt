@@ -3,7 +3,7 @@ use Rattle.flat.specs.Registers.{is_zero}
 use Rattle.tags.specs.Meaning.{names}
 use Rattle.tags.specs.Invariants.{laid_down, filled_for}
 use Rattle.tags.proofs.Banks.{shown}
-use Rattle.tags.proofs.Moves.{Ready, gone_zero, stay_goes, move_goes, goes_same}
+use Rattle.tags.proofs.Moves.{Ready, gone_zero, stay_goes, move_goes, goes_same, warm_moved}
 use Rattle.tags.proofs.bank.Bank.go.Goals as goal
 
 pub returns-then-is_zero : goal.returns-then-is_zero
@@ -36,3 +36,9 @@ returns-else-line-self g c =
     let lines : c.take_up.new.self.lines ≡ set (laid_down b.columns.lines b.columns.counts (slice_index b.columns.carried r)) t.result (c.args.address / 128) = cc (c.take_up.ensures.lines, c.lay_down.ensures.lines, t.ensures.lines, t.ensures.counts, t.ensures.carried, same) in
     let bytes : c.take_up.new.self.bytes ≡ filled_for (c.args.address / 128) (g.L.Lines.given c.args.lines.now (c.args.address / 128)) t.result b.columns.lines b.columns.bytes = cc (c.take_up.ensures.bytes, c.lay_down.ensures.bytes, t.ensures.bytes) in
     goes_same r c.args.address _ _ addresses lines bytes (move_goes b.columns.bytes r c.args.address t.result _ (shown b) c.args.register.inside real (search rules) y (search rules))
+
+pub invariant_of-self-else-line-self : goal.invariant_of-self-else-line-self
+invariant_of-self-else-line-self g c =
+    let b = c.args.self.now in
+    let t = c.tag_for-tag in
+    record { warm = warm_moved b.columns.carried c.lay_down.new.self.carried c.take_up.new.self.carried c.from-r.result t.result (search rules) c.take_up.ensures.carried (search rules) t.ensures.some b.warm }
