@@ -2,9 +2,8 @@ use Rattle.std.proofs.Common.{◌≡◌, ◌/◌, false, true, slice_index, set,
 use Rattle.flat.specs.Registers.{is_zero}
 use Rattle.tags.specs.Meaning.{names}
 use Rattle.tags.specs.Names.{Goes}
-use Rattle.tags.specs.Invariants.{laid_down, filled_for}
 use Rattle.tags.proofs.Banks.{shown}
-use Rattle.tags.proofs.Moves.{Ready, gone_zero, stay_goes, move_goes, goes_same, warm_moved}
+use Rattle.tags.proofs.Moves.{gone_zero, stay_goes, goes_same}
 use Rattle.tags.proofs.bank.Bank.go.Goals as goal
 
 pub returns-then-is_zero : goal.returns-then-is_zero
