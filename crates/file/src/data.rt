@@ -113,6 +113,7 @@ impl DataRegisters {
     }
 
     // Sends back the line that a tag names, and takes the tag's mark away.
+    #[inline(never)]
     fn send_back<S: Store>(&mut self, tag: Tag, line: u32, store: &mut S)
         requires { (names self.old.bank).tag line ≡ Some tag.number }
         ensures data { stands self.new (S.meaning store.new) ≡ sent_back line (stands self.old (S.meaning store.old)) }

@@ -26,7 +26,9 @@ impl Marks {
     pub fn contains(self, tag: u8) -> bool
         ensures { result ≡ marked self tag }
     {
-        tag < 128 && (self.words[usize::from(tag / 64)] >> (tag % 64)) & 1 == 1
+        let [low, high] = self.words;
+        let word = if tag < 64 { low } else { high };
+        tag < 128 && (word >> (tag % 64)) & 1 == 1
     }
 
     // Marks the tag.

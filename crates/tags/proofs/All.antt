@@ -1,5 +1,5 @@
 -- One thing for each of 128.
-use Rattle.std.proofs.Common.{◌≡◌, ℕ, ◌*◌, ◌<◌, ◌==◌, cond, length, get_or}
+use Rattle.std.proofs.Common.{◌≡◌, ℕ, ◌*◌, ◌<◌, ◌==◌, Bool, cond, count_by, length, get_or}
 use Rattle.std.proofs.lemmas.List.{length-replicate, get_or-replicate}
 use Rattle.std.proofs.lemmas.List.Folds.{sum_by-replicate}
 use Rattle.tags.specs.Invariants.{all, carriers}
@@ -15,3 +15,7 @@ get_or-all k x d h = get_or-replicate 128 k x d h
 pub carriers-all : (x t : ℕ) → carriers (all x) t ≡ 128 * cond (x == t) 1 0
 unfolding all
 carriers-all x t = sum_by-replicate (λ c. cond (c == t) 1 0) 128 x
+
+pub count-all : (p : ℕ → Bool) (x : ℕ) → count_by p (all x) ≡ 128 * cond (p x) 1 0
+unfolding all
+count-all p x = sum_by-replicate (λ c. cond (p c) 1 0) 128 x

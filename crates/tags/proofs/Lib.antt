@@ -9,3 +9,4 @@ pub mod Tests
 pub mod Showing
 pub mod Banks
 pub mod Copies
+pub mod Buckets

@@ -5,7 +5,7 @@ use Rattle.std.proofs.lemmas.Bool.{cases_eq}
 use Rattle.std.proofs.lemmas.Bool.Decides.{nat_tests}
 use Rattle.std.proofs.lemmas.List.{length-set, get_or-set_same, get_or-set_other}
 use Rattle.flat.specs.Registers.{is_zero}
-use Rattle.tags.specs.Invariants.{free, no_bytes, laid_down, filled_for}
+use Rattle.tags.specs.Invariants.{Warm, free, no_bytes, laid_down, filled_for}
 use Rattle.tags.specs.Names.{Names, Goes, names_of, find, gone, written, tag_of, all_lines}
 use Rattle.flat.specs.Registers.{shared}
 use Rattle.tags.proofs.Finds.{find_is, find_none, find-set}
@@ -176,6 +176,11 @@ move_goes {addresses} {carried} {lines} {counts} bytes r a t b s hr real ha y si
     let q = fun_ext {f = after.tag} {g = gone_tag r a t before} (λ n. move_tag bytes r a t n (n == a / 128) refl s hr real ha y) in
     let c = fun_ext {f = after.bytes} {g = gone_bytes a t b before} (λ v. move_bytes bytes (a / 128) t v b (slice_index lines t == a / 128) refl s.held (omega arith) y size) in
     (t, λ z none. (y.some, y.tags, move_unused bytes (a / 128) t s.held (omega arith) y none), (λ i. names_with (p i) (q i) (c i)) ∙ gone_real r a t b before real)
+
+-- A register that lays down its tag and takes one carries a tag, as all others do.
+pub warm_moved : (carried laid taken : List ℕ) (r t : ℕ) → laid ≡ set carried r 0 → taken ≡ set laid r t → r < length carried → 0 < t → Warm carried → Warm taken
+warm_moved carried laid taken r t el et hr pt warm =
+    λ q hq real. let w = warm q hq real in let a = at carried r q 0 hr in let b = at (set carried r 0) r q t (rw length-set hr) in rw (et, el) (grind (arith, cases_eq q r))
 
 -- Lists that are the same show the same.
 pub goes_same : (r a : ℕ) (b : List ℕ) (before : Names) {a1 a2 l1 l2 : List ℕ} {s1 s2 : List (List ℕ)} → a1 ≡ a2 → l1 ≡ l2 → s1 ≡ s2 → Goes r a b before (names_of a2 l2 s2) → Goes r a b before (names_of a1 l1 s1)

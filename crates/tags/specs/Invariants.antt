@@ -1,6 +1,8 @@
 -- What holds of the columns of a bank.
-use Rattle.std.specs.Prelude.{◌≡◌, ◌≢◌, ℕ, ◌<◌, ◌/◌, ◌==◌, ◌^◌, false, if◌then◌else◌, set, List, length, slice_index, get_or, count_by, replicate}
+use Rattle.std.specs.Prelude.{◌≡◌, ◌≢◌, ℕ, ◌<◌, ◌/◌, ◌%◌, ◌==◌, ◌&&◌, ◌^◌, Bool, false, nat_lt, if◌then◌else◌, set, List, length, slice_index, get_or, count_by, replicate}
 use Rattle.flat.specs.Registers.{is_zero}
+use Rattle.marks.specs.Marks.{marked}
+use Rattle.tags.specs.declared.index.Index.{Index}
 
 -- A tag that no register carries holds this in place of a line's number.
 abbrev pub free : ℕ
@@ -76,3 +78,20 @@ Warm carried = (r : ℕ) → r < 128 → is_zero r ≡ false → slice_index car
 abbrev pub filled_for : ℕ → List ℕ → ℕ → List ℕ → List (List ℕ) → List (List ℕ)
 filled_for line given t lines bytes =
     if slice_index lines t == line then bytes else set bytes t given
+
+-- Whether what a tag holds in place of a line's number is one of bucket b.
+abbrev pub falls : ℕ → ℕ → Bool
+falls b l = nat_lt l (2 ^ 25) && (l % 128 == b)
+
+-- Of each of 128 buckets it is known how many tags hold a line of it.
+abbrev pub Held : List ℕ → List ℕ → Type 0
+Held held lines =
+    (length held ≡ 128) × ((b : ℕ) → b < 128 → slice_index held b ≡ count_by (falls b) lines)
+
+-- The tags that hold no line are marked.
+abbrev pub Spare : (ℕ → Bool) → List ℕ → Type 0
+Spare spare lines = (t : ℕ) → t < 128 → spare t ≡ (slice_index lines t == free)
+
+-- An index says where to look for the tags that hold lines.
+abbrev pub Indexed : Index → List ℕ → Type 0
+Indexed index lines = Held index.held lines × Spare (marked index.free) lines

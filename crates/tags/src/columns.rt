@@ -1,8 +1,9 @@
 // What a bank keeps of its registers and tags, column by column.
 ghost use Rattle.std.specs.Prelude.{◌≡◌};
-ghost use Rattle.tags.specs.Invariants.{all, Apart, Counted, Free, Linked, NoLine, NoTag, Sized, Small, Whole};
+ghost use Rattle.tags.specs.Invariants.{all, Apart, Counted, Free, Indexed, Linked, NoLine, NoTag, Sized, Small, Whole};
 
 use crate::change::Change;
+use crate::index::Index;
 use crate::lines::Lines;
 use crate::tag::Tag;
 
@@ -18,6 +19,8 @@ pub(crate) struct Columns {
     pub(crate) counts: [u8; 128],
     // the bytes of each tag's line
     pub(crate) bytes: [[u8; 128]; 128],
+    // where the tags of lines, and free tags, are looked for
+    pub(crate) index: Index,
     ghost sized: { Sized addresses carried lines counts },
     ghost small: { Small addresses },
     ghost whole: { Whole bytes },
@@ -27,6 +30,7 @@ pub(crate) struct Columns {
     ghost counted: { Counted carried counts },
     ghost free: { Free counts lines },
     ghost apart: { Apart lines },
+    ghost indexed: { Indexed index lines },
 }
 
 // A tag that no register carries holds this in place of a line's number.
@@ -40,7 +44,7 @@ pub(crate) const LINES: u32 = 0x200_0000;
 
 // One value for each of 128.
 #[tactic(auto, unfolding(crate::specs::Invariants::all))]
-fn filled<T: Copy>(value: T) -> [T; 128]
+pub(crate) fn filled<T: Copy>(value: T) -> [T; 128]
     ensures { result ≡ all value }
 {
     [value; 128]
@@ -50,7 +54,7 @@ impl Columns {
     ghost use Rattle.tags.specs.Invariants.{Warm};
     ghost use Rattle.tags.specs.Names.{find, names_of, started};
     ghost use Rattle.tags.specs.Numbers.{number};
-    ghost use Rattle.std.specs.Prelude.{◌≢◌, ◌==◌, ◌-◌, ◌+◌, ◌<◌, ◌/◌, ◌^◌, false, ℕ, if◌then◌else◌, slice_index, get_or, option_map, position, set, slice_set};
+    ghost use Rattle.std.specs.Prelude.{◌≢◌, ◌==◌, ◌-◌, ◌+◌, ◌<◌, ◌/◌, ◌^◌, false, ℕ, if◌then◌else◌, slice_index, get_or, option_map, set, slice_set};
     ghost use Rattle.flat.specs.Registers.{is_zero};
     ghost use Rattle.tags.specs.Invariants.{filled_for, free, no_bytes, laid_down};
 
@@ -76,17 +80,35 @@ impl Columns {
             lines,
             counts,
             bytes,
+            index: Index::new(),
         }
     }
 
-    // The tag that holds a line, if any. The loop has no way out, so that several tags are compared at
-    // once.
+    // The tag that holds a line, if any: none where no tag holds a line of its bucket, and mostly the tag
+    // that was last taken for one.
     pub(crate) fn holder(&self, line: u32) -> Option<Tag>
         ensures { option_map number result ≡ find self.now.lines line }
     {
         if line >= LINES {
             return None;
         }
+        if self.index.is_empty(line) {
+            return None;
+        }
+        let guess = self.index.guess(line);
+        if self.lines[usize::from(guess.number())] == line {
+            return Some(guess);
+        }
+        self.search(line)
+    }
+
+    // The tag that holds a line, if any. The loop has no way out, so that several tags are compared at
+    // once.
+    #[inline(never)]
+    fn search(&self, line: u32) -> Option<Tag>
+        requires { line < 2 ^ 25 }
+        ensures { option_map number result ≡ find self.now.lines line }
+    {
         let mut holder = 0;
         for tag in 0..128u32 {
             if self.lines[tag as usize] == line {
@@ -97,13 +119,6 @@ impl Columns {
             return None;
         }
         Some(Tag::new(holder as u8))
-    }
-
-    // The first tag that holds a number in place of its line.
-    fn first(&self, number: u32) -> Option<usize>
-        ensures { result ≡ position (λ l. l == number) self.now.lines }
-    {
-        self.lines.iter().position(|line| *line == number)
     }
 
     // Register r lays down its tag, which is free when no other carries it.
@@ -121,6 +136,7 @@ impl Columns {
         self.carried[r] = 0;
         self.counts[tag] = left;
         if left == 0 {
+            self.index.remove(tag as u8, self.lines[tag]);
             self.lines[tag] = FREE;
         }
     }
@@ -142,8 +158,10 @@ impl Columns {
     {
         self.addresses[r] = address;
         self.carried[r] = tag as u8;
-        self.lines[tag] = address / 128;
         self.counts[tag] += 1;
+        let line = address / 128;
+        self.index.take(tag as u8, line, self.lines[tag] == FREE);
+        self.lines[tag] = line;
     }
 
     // Register r goes to another address on its line.
@@ -226,6 +244,6 @@ impl Columns {
         ensures tags { result < 128 }
         ensures free { slice_index self.now.lines result ≡ free }
     {
-        self.first(FREE).unwrap()
+        usize::from(self.index.first_free().unwrap())
     }
 }

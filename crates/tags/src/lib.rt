@@ -11,6 +11,7 @@ mod bank;
 mod change;
 mod columns;
 mod going;
+mod index;
 mod lines;
 mod register;
 mod tag;

@@ -1,9 +1,9 @@
-use Rattle.std.proofs.Common.{◌≡◌, ◌/◌, false, true, slice_index, set, sym, ap, ◌∙◌, rules, arith}
+use Rattle.std.proofs.Common.{◌≡◌, ◌/◌, false, true, slice_index, set, sym, ap, ◌∙◌, subst, rules, arith}
 use Rattle.flat.specs.Registers.{is_zero}
 use Rattle.tags.specs.Meaning.{names}
-use Rattle.tags.specs.Invariants.{laid_down, filled_for}
+use Rattle.tags.specs.Names.{Goes}
 use Rattle.tags.proofs.Banks.{shown}
-use Rattle.tags.proofs.Moves.{Ready, gone_zero, stay_goes, move_goes, goes_same}
+use Rattle.tags.proofs.Moves.{gone_zero, stay_goes, goes_same}
 use Rattle.tags.proofs.bank.Bank.go.Goals as goal
 
 pub returns-then-is_zero : goal.returns-then-is_zero
@@ -24,15 +24,6 @@ returns-then-line-self g c =
     goes_same r c.args.address _ _ addresses c.stay.ensures.lines c.stay.ensures.bytes (stay_goes b.columns.bytes r c.args.address _ (shown b) c.args.register.inside real line)
 
 pub returns-else-line-self : goal.returns-else-line-self
-unfolding names
 returns-else-line-self g c =
-    let b = c.args.self.now in
-    let r = c.args.register.number in
-    let t = c.tag_for-tag in
-    let real : is_zero r ≡ false = sym c.is_zero.ensures ∙ c.if-is_zero.false in
-    let same : c.from-r.result ≡ r = omega (arith, c.from-r.ensures, c.number.ensures) in
-    let y : Ready b.columns.lines (c.args.address / 128) t.result = record { some = t.ensures.some; tags = t.ensures.tags; only = t.ensures.only; ready = t.ensures.ready } in
-    let addresses : c.take_up.new.self.addresses ≡ set b.columns.addresses r c.args.address = cc (c.take_up.ensures.addresses, c.lay_down.ensures.addresses, t.ensures.addresses, same) in
-    let lines : c.take_up.new.self.lines ≡ set (laid_down b.columns.lines b.columns.counts (slice_index b.columns.carried r)) t.result (c.args.address / 128) = cc (c.take_up.ensures.lines, c.lay_down.ensures.lines, t.ensures.lines, t.ensures.counts, t.ensures.carried, same) in
-    let bytes : c.take_up.new.self.bytes ≡ filled_for (c.args.address / 128) (g.L.Lines.given c.args.lines.now (c.args.address / 128)) t.result b.columns.lines b.columns.bytes = cc (c.take_up.ensures.bytes, c.lay_down.ensures.bytes, t.ensures.bytes) in
-    goes_same r c.args.address _ _ addresses lines bytes (move_goes b.columns.bytes r c.args.address t.result _ (shown b) c.args.register.inside real (search rules) y (search rules))
+    let same : c.from-r.result ≡ c.args.register.number = omega (arith, c.from-r.ensures, c.number.ensures) in
+    subst (λ r. Goes r c.args.address (g.L.Lines.given c.args.lines.now (c.args.address / 128)) (names c.args.self.now) (names c.cross.new.self)) same c.cross.ensures

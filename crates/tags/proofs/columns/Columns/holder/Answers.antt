@@ -1,5 +1,6 @@
-use Rattle.std.proofs.Common.{Some, ap, ◌∙◌, sym, arith}
-use Rattle.std.proofs.lemmas.Bool.{cases_eq}
+use Rattle.std.proofs.Common.{slice_index, ap, ◌∙◌, sym, arith}
+use Rattle.std.proofs.lemmas.Bool.Decides.{nat_tests}
+use Rattle.tags.proofs.Buckets.{held_none}
 use Rattle.tags.proofs.Finds.{find_none}
 use Rattle.tags.proofs.Holding.{held}
 use Rattle.tags.proofs.Showing.{names_line}
@@ -9,11 +10,14 @@ pub returns-then-line-ge-LINES : goal.returns-then-line-ge-LINES
 returns-then-line-ge-LINES c =
     sym (find_none c.args.self.now.lines c.args.line (λ k hk small. absurd (omega arith)))
 
-pub returns-then-holder-eq0 : goal.returns-then-holder-eq0
-returns-then-holder-eq0 c =
+pub returns-then-is_empty : goal.returns-then-is_empty
+returns-then-is_empty c =
     let s = c.args.self.now in
-    sym (find_none s.lines c.args.line (λ k hk small f. let seen = c.loop-tag.invariant.seen k in let n = s.no_line.0 in let l = s.sized.2 in grind (arith, cases_eq k 0)))
+    sym (find_none s.lines c.args.line (λ k hk small. held_none s.index.held s.lines c.args.line k s.indexed.0 (grind (arith, nat_tests, c.is_empty.ensures, c.if-is_empty.true)) small hk))
 
-pub returns : goal.returns
-returns c =
-    ap (λ k. Some k) c.new.ensures ∙ sym (names_line c.args.line c.loop-tag.holder (held c.args.self.now) c.loop-tag.invariant.inside (omega arith) (c.loop-tag.invariant.holds (omega arith)))
+pub returns-then-self-from : goal.returns-then-self-from
+returns-then-self-from c =
+    let s = c.args.self.now in
+    let t = c.guess-guess.result.number in
+    let e = ap (λ k. slice_index s.lines k) (sym (c.from.ensures ∙ c.number.ensures)) ∙ c.if-self-from.true in
+    sym (names_line c.args.line t (held s) c.guess-guess.result.inside (omega arith) e)

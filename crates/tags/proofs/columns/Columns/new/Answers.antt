@@ -1,5 +1,6 @@
 use Rattle.std.proofs.Common.{◌≡◌, ap, ◌∙◌, rules, arith}
 use Rattle.tags.specs.Invariants.{all, no_bytes}
+use Rattle.tags.proofs.Buckets.{indexed_start}
 use Rattle.tags.proofs.Starting.{held_start, warm_start, small_start, whole_start, zeros_start, names_start}
 use Rattle.tags.proofs.columns.Columns.new.Goals as goal
 
@@ -17,6 +18,7 @@ invariant_of-result c =
       counted = λ t pt ht. omega (arith, k.counted t pt ht);
       free = λ t pt ht none. grind (arith, k.free t pt ht);
       apart = k.apart;
+      indexed = indexed_start c.new.result c.new.ensures.held c.new.ensures.free c.filled-lines.ensures;
     }
 
 pub returns-clause-names : goal.returns-clause-names

@@ -18,4 +18,5 @@ invariant_of-self c =
       counted = k.counted;
       free = k.free;
       apart = k.apart;
+      indexed = s.indexed;
     }

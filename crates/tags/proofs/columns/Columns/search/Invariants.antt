@@ -1,5 +1,5 @@
 use Rattle.std.proofs.Common.{◌≡◌, ℕ, ◌<◌, slice_index}
-use Rattle.tags.proofs.columns.Columns.holder.Given as goal
+use Rattle.tags.proofs.columns.Columns.search.Given as goal
 
 -- The tag seen last that holds the line, or 0 while none was seen.
 abbrev pub invariant-loop-tag : goal.invariant-loop-tag
