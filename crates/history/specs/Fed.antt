@@ -26,9 +26,9 @@ answer_as name (Err why) = Err why
 abbrev pub told : {X : Type 0} → (X → Answer) → Called X → Told
 told name c = record { answer = answer_as name c.answer; records = []; sent = []; flat = c.flat }
 
--- Trace adds the records of its steps and the lines that they sent back.
+-- Trace adds the records of its steps and the lines that they sent back. Its answer says how many lines these are.
 abbrev pub told_trace : Called Traced → Told
-told_trace c = record { answer = answer_as (λ (t : Traced). TraceAnswer t.ran) c.answer; records = records_of c.answer; sent = sent_of c.answer; flat = c.flat }
+told_trace c = record { answer = answer_as (λ (t : Traced). TraceAnswer t.ran (length t.sent)) c.answer; records = records_of c.answer; sent = sent_of c.answer; flat = c.flat }
 
 -- One call. Of the trails it is given only the space left; trace takes no more of it than it asks for.
 unfoldable pub made : ℕ → ℕ → Call → Flat → Told

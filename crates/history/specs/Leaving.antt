@@ -15,7 +15,7 @@ use Rattle.history.specs.declared.answer.Answer.TheVariants.{Stepped, Ran, Trace
 abbrev pub steps_of : Answer → ℕ
 steps_of (Stepped x) = 1
 steps_of (Ran ran) = ran.steps
-steps_of (Traced ran) = ran.steps
+steps_of (Traced ran sent) = ran.steps
 steps_of a = 0
 
 -- A refused call made none.

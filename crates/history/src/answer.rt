@@ -6,8 +6,8 @@ pub enum Answer {
     Booted,
     Stepped(Stepped),
     Ran(Ran),
-    // what trace adds to its trails is in these
-    Traced(Ran),
+    // what trace adds to its trails is in these: as many records as it made steps, and so many lines sent back
+    Traced { ran: Ran, sent: usize },
     Pinned,
     Data(ShownData),
     Instruction(ShownInstruction),

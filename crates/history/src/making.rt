@@ -1,8 +1,9 @@
 // One call, made.
-ghost use Rattle.std.specs.Prelude.{◌≡◌};
+ghost use Rattle.std.specs.Prelude.{◌≡◌, min};
+ghost use Rattle.flat.specs.Calls.{trace};
 ghost use Rattle.trail.specs.Trails.{space};
 ghost use Rattle.file.specs.Files.{stands};
-ghost use Rattle.history.specs.Fed.{made};
+ghost use Rattle.history.specs.Fed.{made, told_trace};
 ghost use Rattle.history.specs.Made.{Makes};
 
 use crate::answer::Answer;
@@ -15,6 +16,24 @@ use refusal::Refusal;
 use store::Store;
 use tracing::{Slots, trace_within};
 use trail::Trail;
+
+// Traces, and counts the lines that were sent back.
+#[tactic(auto, using(trail::proofs::Adding::added_fits, trail::proofs::Adding::space_after))]
+fn traced<S: Store>(
+    limit: u32,
+    most: Slots,
+    file: &mut File,
+    steps: &mut Trail<StepRecord>,
+    lines: &mut Trail<u32>,
+    store: &mut S,
+) -> Result<Answer, Refusal>
+    ensures { Makes (told_trace (trace limit (min most.steps (space steps.old)) (min most.lines (space lines.old)) (stands file.old (S.meaning store.old)))) result (stands file.new (S.meaning store.new)) steps.old steps.new lines.old lines.new }
+{
+    let before = lines.space();
+    let ran = trace_within(file, limit, most, steps, lines, store)?;
+    let sent = before - lines.space();
+    Ok(Answer::Traced { ran, sent })
+}
 
 // Makes a call on what the calls before it left.
 #[tactic(auto, unfolding(crate::specs::Fed::made))]
@@ -49,8 +68,7 @@ pub(crate) fn make<S: Store>(
                 steps: most_steps,
                 lines: most_lines,
             };
-            let ran = trace_within(file, limit, most, steps, lines, store)?;
-            Ok(Answer::Traced(ran))
+            traced(limit, most, file, steps, lines, store)
         }
         Call::Pin(up) => {
             file.pin(up)?;

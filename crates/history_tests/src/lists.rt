@@ -105,7 +105,10 @@ fn every_call_and_every_refusal(rt: HostRuntime) {
             Err(Refusal::NoRegister),
             Err(Refusal::OverLimit),
             Ok(Answer::Stepped(Stepped::Done)),
-            Ok(Answer::Traced(three)),
+            Ok(Answer::Traced {
+                ran: three,
+                sent: 1
+            }),
             Err(Refusal::OverLimit),
             Ok(Answer::Pinned),
             Ok(Answer::Rest(control)),
@@ -189,7 +192,10 @@ fn traces_share_their_trails(rt: HostRuntime) {
         steps: 1,
         last: Stepped::Done,
     };
-    assert_eq!(rt; answer_slots.get(2), Some(&Ok(Answer::Traced(one))));
+    assert_eq!(rt;
+        answer_slots.get(2),
+        Some(&Ok(Answer::Traced { ran: one, sent: 1 }))
+    );
     assert_eq!(rt; step_slots, [done(0), done(1), done(2)]);
     assert_eq!(rt; line_slots.first(), Some(&1));
 }
