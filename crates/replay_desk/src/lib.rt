@@ -6,7 +6,6 @@
 
 mod failure;
 mod input;
-mod printing;
 
 use crate::input::{calls_of, read_script};
 use bench::{FileFault, RAM_BYTES, load_file, on_bench};
@@ -14,9 +13,11 @@ pub use failure::Failure;
 use flat::{Mode, StepRecord, Stepped};
 use history::{Answer, history};
 use panel::RefusedImage;
-use printing::{Report, print_report};
 use refusal::Refusal;
+use std::io;
+use std::io::{BufWriter, Write};
 use store::{Ram, Store};
+use telling::Report;
 use trail::Trail;
 
 // The slots of each trail that traces share.
@@ -36,6 +37,13 @@ fn load<S: Store>(rt: &HostRuntime, store: &mut S) -> Result<(), Failure> {
         Err(FileFault::Refused(fault)) => println!(rt; "{}", RefusedImage(fault.refusal()))?,
         Err(fault) => return Err(fault.into()),
     }
+    Ok(())
+}
+
+fn print_report(rt: &HostRuntime, report: Report) -> Result<(), Failure> {
+    let mut out = BufWriter::new(rt.alloc(), io::writer(rt))?;
+    write!(out, "{report}")?;
+    out.flush()?;
     Ok(())
 }
 

@@ -10,9 +10,9 @@ use std::fmt;
 
 // What a call answered. The call has the number of the register that it shows.
 #[derive(Clone, Copy)]
-pub struct AnswerText<'a> {
-    pub call: Call,
-    pub answer: &'a Result<Answer, Refusal>,
+pub(crate) struct AnswerText<'a> {
+    pub(crate) call: Call,
+    pub(crate) answer: &'a Result<Answer, Refusal>,
 }
 
 // The number of the register that a call shows; 0 where it shows none.

@@ -9,7 +9,7 @@ use std::fmt;
 
 // The line of a step.
 #[derive(Clone, Copy)]
-pub struct RecordText(pub StepRecord);
+pub(crate) struct RecordText(pub(crate) StepRecord);
 
 impl fmt::Display for RecordText {
     ghost output = { λ record_. Some (record_text record_.0) };
@@ -31,7 +31,7 @@ impl fmt::Display for RecordText {
 
 // The line of a line that was sent back.
 #[derive(Clone, Copy)]
-pub struct SentText(pub u32);
+pub(crate) struct SentText(pub(crate) u32);
 
 impl fmt::Display for SentText {
     ghost output = { λ sent. Some (sent_text sent.0) };
