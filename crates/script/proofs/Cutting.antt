@@ -1,4 +1,4 @@
--- What stands in front of a space and behind it, and behind some words.
+-- What stands in front of a space and behind it.
 use Rattle.std.proofs.Common.{◌≡◌, ◌≢◌, ℕ, ◌<◌, ◌^◌, List, [], ◌∷◌, ◌++◌, length, get_or, arith, append_assoc, Option, Some, MatchOption, Bor}
 use Rattle.std.specs.Fmt.{decimal}
 use Rattle.std.proofs.lemmas.Fmt.{digits_decimal}
