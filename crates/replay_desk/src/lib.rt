@@ -1,0 +1,73 @@
+// The replay as a program has it: it reads a script, loads bench.img into the stores of the bench, makes all the
+// calls of the script by one call of `history`, and prints what they answered. It uses `script` and `telling` for
+// what is read and printed, `bench` for the stores and the image, `panel` for the line of a refused image, and
+// `trail`, `flat`, `store` and `refusal` for what `history` is handed; programs only call it.
+#![tactic(auto)]
+
+mod failure;
+mod input;
+
+use crate::input::{calls_of, read_script};
+use bench::{FileFault, RAM_BYTES, load_file, on_bench};
+pub use failure::Failure;
+use flat::{Mode, StepRecord, Stepped};
+use history::{Answer, history};
+use panel::RefusedImage;
+use refusal::Refusal;
+use std::io;
+use std::io::{BufWriter, Write};
+use store::{Ram, Store};
+use telling::Report;
+use trail::Trail;
+
+// The slots of each trail that traces share.
+const TRAIL_SLOTS: usize = 1_000_000;
+
+const BLANK_RECORD: StepRecord = StepRecord {
+    mode: Mode::Supervisor,
+    address: 0,
+    word: 0,
+    answer: Stepped::Done,
+};
+
+// Loads the image, if there is one. A refused image stays unloaded.
+fn load<S: Store>(rt: &HostRuntime, store: &mut S) -> Result<(), Failure> {
+    match load_file(rt, "bench.img", store) {
+        Ok(_) | Err(FileFault::Missing) => {}
+        Err(FileFault::Refused(fault)) => println!(rt; "{}", RefusedImage(fault.refusal()))?,
+        Err(fault) => return Err(fault.into()),
+    }
+    Ok(())
+}
+
+fn print_report(rt: &HostRuntime, report: Report) -> Result<(), Failure> {
+    let mut out = BufWriter::new(rt.alloc(), io::writer(rt))?;
+    write!(out, "{report}")?;
+    out.flush()?;
+    Ok(())
+}
+
+// Makes the calls of the script, and prints what they answered.
+pub fn replay(rt: &HostRuntime) -> Result<(), Failure> {
+    let script = read_script(rt)?;
+    let calls = calls_of(rt, &script)?;
+    let no_answer: Result<Answer, Refusal> = Ok(Answer::Booted);
+    let mut answer_slots = vec![in rt.alloc(); no_answer; calls.len()]?;
+    let mut step_slots = vec![in rt.alloc(); BLANK_RECORD; TRAIL_SLOTS]?;
+    let mut line_slots = vec![in rt.alloc(); 0u32; TRAIL_SLOTS]?;
+    let mut answers = Trail::new(&mut answer_slots);
+    let mut steps = Trail::new(&mut step_slots);
+    let mut lines = Trail::new(&mut line_slots);
+    let mut memory = vec![in rt.alloc(); 0; RAM_BYTES]?;
+    let mut ram = Ram::new(&mut memory);
+    load(rt, &mut ram)?;
+    let mut store = on_bench(ram);
+    history(&calls, &mut answers, &mut steps, &mut lines, &mut store);
+    let report = Report {
+        script: &script,
+        answers: answers.records(),
+        steps: steps.records(),
+        lines: lines.records(),
+    };
+    print_report(rt, report)
+}

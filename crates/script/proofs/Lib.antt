@@ -1,0 +1,3 @@
+pub mod Cutting
+pub mod Numbered
+pub mod Reading

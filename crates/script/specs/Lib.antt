@@ -1,0 +1,3 @@
+pub mod Kinds
+pub mod Plain
+pub mod Texts

@@ -1,0 +1,7 @@
+// Scripts: the call that a line of text asks for. It uses the calls as values, of `history`.
+#![tactic(auto)]
+
+mod calls;
+mod numbers;
+
+pub use calls::call_of;

@@ -1,0 +1,4 @@
+pub mod Entries
+pub mod Reports
+pub mod Rows
+pub mod Texts

@@ -1,0 +1,35 @@
+-- What is printed of a whole replay.
+use Rattle.std.specs.Prelude.{ℕ, List, [], ◌∷◌, ◌++◌, codes, drop, take, flat_map, Ok, Result, Option, Some, None}
+use Rattle.flat.specs.declared.records.StepRecord.{StepRecord}
+use Rattle.history.specs.declared.answer.Answer.{Answer}
+use Rattle.history.specs.declared.answer.Answer.TheVariants.{Traced}
+use Rattle.history.specs.declared.call.Call.{Call}
+use Rattle.refusal.specs.declared.Refusal.{Refusal}
+use Rattle.telling.specs.Texts.{answer_text, record_text, register_of, sent_text}
+
+-- A line for each step, and for each line that was sent back; each ends in a newline (code 10).
+abbrev pub records_text : List StepRecord → List ℕ
+records_text steps = flat_map (λ step. record_text step ++ 10 ∷ []) steps
+
+abbrev pub sents_text : List ℕ → List ℕ
+sents_text lines = flat_map (λ line. sent_text line ++ 10 ∷ []) lines
+
+-- What a call answered, and below it the records that it added.
+abbrev pub answered_text : Call → Result Answer Refusal → List StepRecord → List ℕ
+answered_text call answer steps = answer_text (register_of call) answer ++ 10 ∷ records_text steps
+
+-- How many records a call added.
+abbrev pub made : Result Answer Refusal → ℕ
+made (Ok (Traced ran)) = ran.steps
+made _ = 0
+
+-- The lines of a script, each with its call if it has one. Each call has the next answer, and each trace the next records; a line that is no call prints a question mark. Where there is no answer left, nothing more is printed.
+unfoldable pub script_text : List (Option Call) → List (Result Answer Refusal) → List StepRecord → List ℕ
+script_text [] answers steps = []
+script_text (None ∷ script) answers steps = codes "?" ++ 10 ∷ script_text script answers steps
+script_text (Some call ∷ script) [] steps = []
+script_text (Some call ∷ script) (answer ∷ answers) steps = answered_text call answer (take (made answer) steps) ++ script_text script answers (drop (made answer) steps)
+
+-- Last come the lines that all traces sent back.
+abbrev pub report_text : List (Option Call) → List (Result Answer Refusal) → List StepRecord → List ℕ → List ℕ
+report_text script answers steps lines = script_text script answers steps ++ sents_text lines

@@ -1,0 +1,14 @@
+// Telling: the text of a replay, which is what its calls answered, the records of its traces and the lines that
+// these sent back. It makes text and prints nothing. It uses `history` for calls and answers, and `flat`, `word`
+// and `refusal` for what these have in them.
+#![tactic(auto)]
+
+mod answers;
+mod hex;
+mod outcomes;
+mod records;
+mod report;
+mod rows;
+mod shown;
+
+pub use report::Report;
