@@ -197,7 +197,6 @@ class Replay:
     def __init__(self, store):
         self.machine = Machine(store)
         self.steps_left, self.lines_left = SLOTS, SLOTS
-        self.sent = []
 
     def boot(self):
         self.machine.boot()
@@ -232,8 +231,7 @@ class Replay:
             sent += [] if line is None else [line]
         self.steps_left -= len(records)
         self.lines_left -= len(sent)
-        self.sent += sent
-        return [f"trace {len(records)} {outcome(last)}"] + records
+        return [f"trace {len(records)} {outcome(last)}"] + records + [f"  sent {line}" for line in sent]
 
     def move_pin(self, way):
         self.machine.need_warm()
@@ -315,8 +313,6 @@ def main():
         replay = Replay(load_image(image.read()))
         for text in script.read().splitlines():
             print("\n".join(replay.answer(text)))
-    for line in replay.sent:
-        print(f"sent {line}")
 
 
 main()

@@ -170,7 +170,12 @@ pub(crate) fn check_word(rt: &impl Abort, file: &File, number: u8, place: usize,
 }
 
 // What a data register shows.
-pub(crate) fn check_data(rt: &impl Abort, file: &File, number: u8, data: (u32, ElementType, [u8; 128])) {
+pub(crate) fn check_data(
+    rt: &impl Abort,
+    file: &File,
+    number: u8,
+    data: (u32, ElementType, [u8; 128]),
+) {
     let (address, kind, bytes) = data;
     let shown = ShownData {
         address,

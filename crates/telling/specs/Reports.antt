@@ -14,22 +14,23 @@ records_text steps = flat_map (λ step. record_text step ++ 10 ∷ []) steps
 abbrev pub sents_text : List ℕ → List ℕ
 sents_text lines = flat_map (λ line. sent_text line ++ 10 ∷ []) lines
 
--- What a call answered, and below it the records that it added.
-abbrev pub answered_text : Call → Result Answer Refusal → List StepRecord → List ℕ
-answered_text call answer steps = answer_text (register_of call) answer ++ 10 ∷ records_text steps
+-- What a call answered, and below it the records and the lines that it added to the trails.
+abbrev pub answered_text : Call → Result Answer Refusal → List StepRecord → List ℕ → List ℕ
+answered_text call answer steps lines = answer_text (register_of call) answer ++ 10 ∷ records_text steps ++ sents_text lines
 
 -- How many records a call added.
 abbrev pub made : Result Answer Refusal → ℕ
-made (Ok (Traced ran)) = ran.steps
+made (Ok (Traced ran n)) = ran.steps
 made _ = 0
 
--- The lines of a script, each with its call if it has one. Each call has the next answer, and each trace the next records; a line that is no call prints a question mark. Where there is no answer left, nothing more is printed.
-unfoldable pub script_text : List (Option Call) → List (Result Answer Refusal) → List StepRecord → List ℕ
-script_text [] answers steps = []
-script_text (None ∷ script) answers steps = codes "?" ++ 10 ∷ script_text script answers steps
-script_text (Some call ∷ script) [] steps = []
-script_text (Some call ∷ script) (answer ∷ answers) steps = answered_text call answer (take (made answer) steps) ++ script_text script answers (drop (made answer) steps)
+-- How many lines.
+abbrev pub sent : Result Answer Refusal → ℕ
+sent (Ok (Traced ran n)) = n
+sent _ = 0
 
--- Last come the lines that all traces sent back.
-abbrev pub report_text : List (Option Call) → List (Result Answer Refusal) → List StepRecord → List ℕ → List ℕ
-report_text script answers steps lines = script_text script answers steps ++ sents_text lines
+-- The lines of a script, each with its call if it has one. Each call has the next answer, and each trace the next records and lines sent back; a line that is no call prints a question mark. Where there is no answer left, nothing more is printed.
+unfoldable pub script_text : List (Option Call) → List (Result Answer Refusal) → List StepRecord → List ℕ → List ℕ
+script_text [] answers steps lines = []
+script_text (None ∷ script) answers steps lines = codes "?" ++ 10 ∷ script_text script answers steps lines
+script_text (Some call ∷ script) [] steps lines = []
+script_text (Some call ∷ script) (answer ∷ answers) steps lines = answered_text call answer (take (made answer) steps) (take (sent answer) lines) ++ script_text script answers (drop (made answer) steps) (drop (sent answer) lines)

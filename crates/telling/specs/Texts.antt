@@ -45,7 +45,7 @@ record_text r = codes "  " ++ mode_text r.mode ++ codes " " ++ hex 8 r.address +
 
 -- A line that was sent back.
 abbrev pub sent_text : ℕ → List ℕ
-sent_text line = codes "sent " ++ decimal line
+sent_text line = codes "  sent " ++ decimal line
 
 -- A data register: its address, its type, and below them its bytes.
 abbrev pub data_text : ℕ → ShownData → List ℕ
@@ -77,7 +77,7 @@ abbrev pub answer_text : ℕ → Result Answer Refusal → List ℕ
 answer_text r (Ok Booted) = codes "boot"
 answer_text r (Ok (StepAnswer stepped)) = codes "step " ++ outcome_text stepped
 answer_text r (Ok (RunAnswer ran)) = codes "run " ++ ran_text ran
-answer_text r (Ok (Traced ran)) = codes "trace " ++ ran_text ran
+answer_text r (Ok (Traced ran sent)) = codes "trace " ++ ran_text ran
 answer_text r (Ok Pinned) = codes "pin"
 answer_text r (Ok (Data shown)) = data_text r shown
 answer_text r (Ok (Instruction shown)) = instruction_text r shown

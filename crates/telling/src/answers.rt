@@ -41,7 +41,7 @@ impl<'a> fmt::Display for AnswerText<'a> {
                 let ran = RanText(*ran);
                 write!(f, "run {ran}")
             }
-            Ok(Answer::Traced(ran)) => {
+            Ok(Answer::Traced { ran, .. }) => {
                 let ran = RanText(*ran);
                 write!(f, "trace {ran}")
             }

@@ -38,6 +38,6 @@ impl fmt::Display for SentText {
 
     fn fmt<W: fmt::Write>(&self, f: &mut fmt::Formatter<W>) -> fmt::Result {
         let line = self.0;
-        write!(f, "sent {line}")
+        write!(f, "  sent {line}")
     }
 }

@@ -1,6 +1,6 @@
 // The text of a whole replay.
 ghost use Rattle.std.specs.Prelude.{◌≡◌, ◌<◌, ◌++◌, [], length, take, drop, Some, MatchOption, IfSome};
-ghost use Rattle.telling.specs.Reports.{answered_text, made, records_text, report_text, sents_text};
+ghost use Rattle.telling.specs.Reports.{answered_text, made, records_text, script_text, sent, sents_text};
 ghost use Rattle.telling.specs.Entries.{entry_text, left_text};
 
 use crate::answers::AnswerText;
@@ -42,20 +42,22 @@ impl<'a> fmt::Display for Sents<'a> {
     }
 }
 
-// What a call answered, and below it the records that it added.
+// What a call answered, and below it what it added to the trails.
 #[derive(Clone, Copy)]
 struct Answered<'a> {
     text: AnswerText<'a>,
     steps: &'a [StepRecord],
+    lines: &'a [u32],
 }
 
 impl<'a> fmt::Display for Answered<'a> {
-    ghost output = { λ one. Some (answered_text one.text.call one.text.answer.now one.steps.now) };
+    ghost output = { λ one. Some (answered_text one.text.call one.text.answer.now one.steps.now one.lines.now) };
 
     fn fmt<W: fmt::Write>(&self, f: &mut fmt::Formatter<W>) -> fmt::Result {
-        let Answered { text, steps } = *self;
+        let Answered { text, steps, lines } = *self;
         let steps = Records(steps);
-        write!(f, "{text}\n{steps}")
+        let lines = Sents(lines);
+        write!(f, "{text}\n{steps}{lines}")
     }
 }
 
@@ -64,17 +66,27 @@ fn made(answer: &Result<Answer, Refusal>) -> usize
     ensures { result ≡ made answer.now }
 {
     match answer {
-        Ok(Answer::Traced(ran)) => ran.steps as usize,
+        Ok(Answer::Traced { ran, .. }) => ran.steps as usize,
         _ => 0,
     }
 }
 
-// The first so many records, or all where there are no more, and those behind them.
-fn cut(steps: &[StepRecord], count: usize) -> (&[StepRecord], &[StepRecord])
-    ensures { (result.0.now ≡ take count steps.now) × (result.1.now ≡ drop count steps.now) }
+// How many lines.
+fn sent(answer: &Result<Answer, Refusal>) -> usize
+    ensures { result ≡ sent answer.now }
 {
-    let own = steps.get(..count).unwrap_or(steps);
-    let left = steps.get(count..).unwrap_or(&[]);
+    match answer {
+        Ok(Answer::Traced { sent, .. }) => *sent,
+        _ => 0,
+    }
+}
+
+// The first so many, or all where there are no more, and those behind them.
+fn cut<T>(all: &[T], count: usize) -> (&[T], &[T])
+    ensures { (result.0.now ≡ take count all.now) × (result.1.now ≡ drop count all.now) }
+{
+    let own = all.get(..count).unwrap_or(all);
+    let left = all.get(count..).unwrap_or(&[]);
     (own, left)
 }
 
@@ -96,12 +108,13 @@ impl<'a> fmt::Display for Entry<'a> {
     }
 }
 
-// The lines of the script that are left, with the answers and the records for them.
+// The lines of the script that are left, with what is left of the answers and the trails.
 #[derive(Clone, Copy)]
 struct Left<'a> {
     script: &'a [Option<Call>],
     answers: &'a [Result<Answer, Refusal>],
     steps: &'a [StepRecord],
+    lines: &'a [u32],
 }
 
 // The next entry, and what is left behind it.
@@ -120,18 +133,21 @@ fn next<'a>(left: Left<'a>) -> Option<(Entry<'a>, Left<'a>)>
     let Some((answer, answers)) = left.answers.split_first() else {
         return None;
     };
-    let (own, steps) = cut(left.steps, made(answer));
+    let (own_steps, steps) = cut(left.steps, made(answer));
+    let (own_lines, lines) = cut(left.lines, sent(answer));
     let answered = Answered {
         text: AnswerText {
             call: *call,
             answer,
         },
-        steps: own,
+        steps: own_steps,
+        lines: own_lines,
     };
     let left = Left {
         script,
         answers,
         steps,
+        lines,
     };
     Some((Entry::Answered(answered), left))
 }
@@ -150,7 +166,7 @@ impl<'a> fmt::Display for Left<'a> {
 }
 
 // A replay: the lines of the script, each with its call if it has one, what the calls answered, and what all
-// traces kept.
+// traces kept, in order.
 #[derive(Clone, Copy)]
 pub struct Report<'a> {
     pub script: &'a [Option<Call>],
@@ -160,7 +176,7 @@ pub struct Report<'a> {
 }
 
 impl<'a> fmt::Display for Report<'a> {
-    ghost output = { λ report. Some (report_text report.script.now report.answers.now report.steps.now report.lines.now) };
+    ghost output = { λ report. Some (script_text report.script.now report.answers.now report.steps.now report.lines.now) };
 
     fn fmt<W: fmt::Write>(&self, f: &mut fmt::Formatter<W>) -> fmt::Result {
         let Report {
@@ -173,8 +189,8 @@ impl<'a> fmt::Display for Report<'a> {
             script,
             answers,
             steps,
+            lines,
         };
-        let sents = Sents(lines);
-        write!(f, "{left}{sents}")
+        write!(f, "{left}")
     }
 }
