@@ -1,12 +1,12 @@
 -- The law over whole histories. Whatever calls are made of the engine, in whatever order and with whatever they are given, refused ones too, from a cold file on and on one store, plain or layered:
 --
--- a. Every answer, every refusal, everything shown and everything traced is what the flat machine gives that is fed the same calls, and the file that is left stands for the machine that is left. The flat machine starts cold and unmarked, with the store's lines as they stood before the first call; from then on it gets the calls and, of the trails, the space left, and nothing of the file or the store.
+-- a. Every answer, every refusal, everything shown and everything traced is what a flat machine that is fed the same calls gives, and the file that is left stands for the machine that is left. The flat machine starts cold and unmarked, with the store's lines as they stood before the first call; from then on it gets the calls and, of the trails, the space left, and nothing of the file or the store.
 --
 -- b. The store holds what the flat machine's backing copy holds. After an accepted flush or halt that is its memory too. Any other call changes a line of the store only if, in one of its steps as the flat machine takes them, the line's last data register leaves it, and then the line holds the bytes that memory held when this last happened.
 --
--- c. In a warm file two data registers carry one tag exactly when they name one line, and the count of a tag is the number of registers that carry it; so too the instruction registers. Zero registers are excepted: they carry no tag.
+-- c. In a warm file every data register carries a tag from 1 to 127, which holds the line that it names; two carry one tag exactly when they name one line, and the count of a tag is the number of registers that carry it; so too the instruction registers. Zero registers are excepted: they carry no tag.
 --
--- Every list of calls is the beginning of longer ones, so what is said after a list is said after each of its calls.
+-- Every list of calls is the beginning of longer ones, and a beginning is a list of its own: so the law is said of what stands after each call.
 use Rattle.std.specs.Prelude.{◌≡◌, ◌↔◌, ℕ, ◌<◌, false, List, ◌∷◌, ◌++◌, Result, slice_index}
 use Rattle.refusal.specs.declared.Refusal.{Refusal}
 use Rattle.store.specs.Meaning.{Meaning}
@@ -37,18 +37,22 @@ pub record StoreKept (steps_space lines_space : ℕ) (calls : List Call) (before
   pub backing : after ≡ backing (fed steps_space lines_space calls before).flat
   pub each : (earlier : List Call) (call : Call) (later : List Call) → calls ≡ earlier ++ call ∷ later → let h = fed steps_space lines_space earlier before in StoreAfter h.flat (next steps_space lines_space h call)
 
--- The tag that a register carries, the line that it names, and the count that is kept of a tag.
+-- The tag that a register carries, the line that it names, and the line and the count that are kept of a tag.
 abbrev pub tag : Bank → ℕ → ℕ
 tag b r = slice_index b.columns.carried r
 
 abbrev pub line : Bank → ℕ → ℕ
 line b r = line_of (slice_index b.columns.addresses r)
 
+abbrev pub held : Bank → ℕ → ℕ
+held b t = slice_index b.columns.lines t
+
 abbrev pub count : Bank → ℕ → ℕ
 count b t = slice_index b.columns.counts t
 
 -- Of the registers of one kind.
 pub record TagsRight (b : Bank) : Type 0 where
+  pub carried : (r : ℕ) → r < 128 → is_zero r ≡ false → (0 < tag b r) × (tag b r < 128) × (held b (tag b r) ≡ line b r)
   pub shared : (q r : ℕ) → q < 128 → r < 128 → is_zero q ≡ false → is_zero r ≡ false → (tag b q ≡ tag b r) ↔ (line b q ≡ line b r)
   pub counted : (t : ℕ) → 0 < t → t < 128 → count b t ≡ carriers b.columns.carried t
   pub zero_registers : (tag b 0 ≡ 0) × (tag b 64 ≡ 0)
