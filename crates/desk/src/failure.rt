@@ -1,12 +1,12 @@
-// Why the console ends early.
+// Why a program at the desk ends early.
 use bench::FileFault;
 use refusal::Refusal;
-use std::alloc::AllocError;
+use std::alloc::{AllocError, AllocFailed};
 use std::io;
 
 #[derive(Debug, Drop)]
 pub enum Failure {
-    // there is no memory for the stores
+    // there is no memory for the stores, a script or the trails
     OutOfMemory,
     // the image cannot be read
     Image(FileFault),
@@ -18,6 +18,12 @@ pub enum Failure {
 
 impl From<AllocError> for Failure {
     fn from(_error: AllocError) -> Failure {
+        Failure::OutOfMemory
+    }
+}
+
+impl<T: Drop> From<AllocFailed<T>> for Failure {
+    fn from(_error: AllocFailed<T>) -> Failure {
         Failure::OutOfMemory
     }
 }

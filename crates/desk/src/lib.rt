@@ -1,8 +1,13 @@
 // The desk: the console as a program has it. It loads bench.img into the stores of the bench, boots a
-// machine on them, and answers each letter of the input until the end. It uses `bench` for the stores and
+// machine on them, and answers each letter of the input until the end. `replay_desk` loads the image in the same
+// way and fails for the same reasons. It uses `bench` for the stores and
 // the file, `panel` for what letters do and what is printed, and `file` for the machine; programs only
 // call it.
 #![tactic(auto)]
+
+ghost use Rattle.std.specs.Prelude.{ℕ, Result};
+ghost use Rattle.bench.specs.Files.{LoadsFile};
+ghost use Rattle.bench.specs.declared.fault.FileFault.{FileFault};
 
 mod failure;
 
@@ -13,8 +18,11 @@ use panel::{Command, Line, RefusedImage, command_of, obey};
 use std::io::Read;
 use store::{Ram, Store};
 
-// Loads the image, if there is one. A refused image stays unloaded.
-fn load<S: Store>(rt: &HostRuntime, store: &mut S) -> Result<(), Failure> {
+// Loads the image, if there is one. A refused image stays unloaded. The store is left as loading a file leaves it, of
+// which no contract can say what it holds.
+pub fn load<S: Store>(rt: &HostRuntime, store: &mut S) -> Result<(), Failure>
+    ensures { (loaded : Result ℕ FileFault) × LoadsFile (S.meaning store.old) loaded (S.meaning store.new) }
+{
     match load_file(rt, "bench.img", store) {
         Ok(_) | Err(FileFault::Missing) => {}
         Err(FileFault::Refused(fault)) => println!(rt; "{}", RefusedImage(fault.refusal()))?,

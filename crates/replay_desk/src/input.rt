@@ -1,5 +1,5 @@
 // The script, read from the standard input.
-use crate::failure::Failure;
+use desk::Failure;
 use history::Call;
 use script::call_of;
 use std::io::{BufRead, BufReader};

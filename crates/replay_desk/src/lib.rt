@@ -1,22 +1,21 @@
 // The replay as a program has it: it reads a script, loads bench.img into the stores of the bench, makes all the
 // calls of the script by one call of `history`, and prints what they answered. It uses `script` and `telling` for
-// what is read and printed, `bench` for the stores and the image, `panel` for the line of a refused image, and
+// what is read and printed, `bench` for the stores, `desk` for loading the image and why a program ends early, and
 // `trail`, `flat`, `store` and `refusal` for what `history` is handed; programs only call it.
 #![tactic(auto)]
 
-mod failure;
 mod input;
 
 use crate::input::{calls_of, read_script};
-use bench::{FileFault, RAM_BYTES, load_file, on_bench};
-pub use failure::Failure;
+use bench::{RAM_BYTES, on_bench};
+pub use desk::Failure;
+use desk::load;
 use flat::{Mode, StepRecord, Stepped};
 use history::{Answer, history};
-use panel::RefusedImage;
 use refusal::Refusal;
 use std::io;
 use std::io::{BufWriter, Write};
-use store::{Ram, Store};
+use store::Ram;
 use telling::Report;
 use trail::Trail;
 
@@ -29,16 +28,6 @@ const BLANK_RECORD: StepRecord = StepRecord {
     word: 0,
     answer: Stepped::Done,
 };
-
-// Loads the image, if there is one. A refused image stays unloaded.
-fn load<S: Store>(rt: &HostRuntime, store: &mut S) -> Result<(), Failure> {
-    match load_file(rt, "bench.img", store) {
-        Ok(_) | Err(FileFault::Missing) => {}
-        Err(FileFault::Refused(fault)) => println!(rt; "{}", RefusedImage(fault.refusal()))?,
-        Err(fault) => return Err(fault.into()),
-    }
-    Ok(())
-}
 
 fn print_report(rt: &HostRuntime, report: Report) -> Result<(), Failure> {
     let mut out = BufWriter::new(rt.alloc(), io::writer(rt))?;
