@@ -22,13 +22,13 @@ abbrev pub mode_text : Mode → List ℕ
 mode_text User = codes "U"
 mode_text Supervisor = codes "S"
 
--- The capital hexadecimal digits of a number, with zeros (code 48) in front of them up to 8.
-abbrev pub hex : ℕ → List ℕ
-hex n = replicate (8 - length (digits 16 true n)) 48 ++ digits 16 true n
+-- The capital hexadecimal digits of a number, with zeros (code 48) in front of them up to this many.
+abbrev pub hex : ℕ → ℕ → List ℕ
+hex count n = replicate (count - length (digits 16 true n)) 48 ++ digits 16 true n
 
 -- The printed line, with one space between.
 abbrev pub text_of : Line → List ℕ
-text_of line = encode_utf8 line.letter ++ codes " " ++ mode_text line.mode ++ codes " " ++ hex line.address ++ codes " " ++ hex line.xct
+text_of line = encode_utf8 line.letter ++ codes " " ++ mode_text line.mode ++ codes " " ++ hex 8 line.address ++ codes " " ++ hex 8 line.xct
 
 -- The line of a refused image: x, a space and the refusal's number.
 abbrev pub refused_text : RefusedImage → List ℕ

@@ -42,7 +42,8 @@ impl Line {
     }
 }
 
-fn mode_text(mode: Mode) -> &'static str
+// The letter of a mode.
+pub fn mode_text(mode: Mode) -> &'static str
     ensures { result.now ≡ mode_text mode }
 {
     match mode {

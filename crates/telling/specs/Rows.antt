@@ -1,10 +1,6 @@
--- Numbers in hexadecimal, and the bytes and the words of a line in rows.
-use Rattle.std.specs.Prelude.{ℕ, suc, zero, ◌+◌, ◌-◌, ◌*◌, List, [], ◌∷◌, ◌++◌, length, replicate, codes, true, slice_range, flat_map}
-use Rattle.std.specs.Fmt.{digits}
-
--- The capital hexadecimal digits of a number, with zeros (code 48) in front of them up to this many.
-abbrev pub hex : ℕ → ℕ → List ℕ
-hex count n = replicate (count - length (digits 16 true n)) 48 ++ digits 16 true n
+-- The bytes and the words of a line in rows.
+use Rattle.std.specs.Prelude.{ℕ, suc, zero, ◌+◌, ◌*◌, List, [], ◌∷◌, ◌++◌, codes, slice_range, flat_map}
+use Rattle.panel.specs.Lines.{hex}
 
 -- Bytes in 2 digits and words in 8, with a space in front of each.
 abbrev pub byte_row : List ℕ → List ℕ

@@ -7,8 +7,6 @@ use Rattle.word.specs.Texts.{element_text}
 use Rattle.flat.specs.Exceptions.{exception_number}
 use Rattle.flat.specs.Operations.{swiarg}
 use Rattle.flat.specs.declared.control.Control.{Control}
-use Rattle.flat.specs.declared.control.Mode.{Mode}
-use Rattle.flat.specs.declared.control.Mode.TheVariants.{User, Supervisor}
 use Rattle.flat.specs.declared.exception.Stepped.{Stepped}
 use Rattle.flat.specs.declared.exception.Stepped.TheVariants.{Done, Entered}
 use Rattle.flat.specs.declared.records.Ran.{Ran}
@@ -19,13 +17,10 @@ use Rattle.history.specs.declared.answer.Answer.{Answer}
 use Rattle.history.specs.declared.answer.Answer.TheVariants.{Booted, Stepped as StepAnswer, Ran as RunAnswer, Traced, Pinned, Data, Instruction, Rest, Flushed, Halted}
 use Rattle.history.specs.declared.call.Call.{Call}
 use Rattle.history.specs.declared.call.Call.TheVariants.{ShowData, ShowInstruction}
-use Rattle.telling.specs.Rows.{hex, byte_rows, word_rows, parts}
+use Rattle.panel.specs.Lines.{hex, mode_text}
+use Rattle.telling.specs.Rows.{byte_rows, word_rows, parts}
 
--- The letter of a mode, and the digit of a bit.
-abbrev pub mode_text : Mode → List ℕ
-mode_text User = codes "U"
-mode_text Supervisor = codes "S"
-
+-- The digit of a bit.
 abbrev pub bit_text : Bool → List ℕ
 bit_text true = codes "1"
 bit_text false = codes "0"

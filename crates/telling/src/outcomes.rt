@@ -1,19 +1,10 @@
 // What a step and a run answered.
-ghost use Rattle.std.specs.Prelude.{◌≡◌, Some};
-ghost use Rattle.telling.specs.Texts.{mode_text, outcome_text, ran_text};
+ghost use Rattle.std.specs.Prelude.{Some};
+ghost use Rattle.telling.specs.Texts.{outcome_text, ran_text};
 
-use crate::hex::Hex;
-use flat::{Mode, Ran, Stepped};
+use flat::{Ran, Stepped};
+use panel::Hex;
 use std::fmt;
-
-pub(crate) fn mode_text(mode: Mode) -> &'static str
-    ensures { result.now ≡ mode_text mode }
-{
-    match mode {
-        Mode::User => "U",
-        Mode::Supervisor => "S",
-    }
-}
 
 // That a step is done, or the exception that it entered.
 #[derive(Clone, Copy)]

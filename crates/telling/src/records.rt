@@ -2,9 +2,9 @@
 ghost use Rattle.std.specs.Prelude.{Some};
 ghost use Rattle.telling.specs.Texts.{record_text, sent_text};
 
-use crate::hex::Hex;
-use crate::outcomes::{Outcome, mode_text};
+use crate::outcomes::Outcome;
 use flat::StepRecord;
+use panel::{Hex, mode_text};
 use std::fmt;
 
 // The line of a step.

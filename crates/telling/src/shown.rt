@@ -5,10 +5,9 @@ ghost use Rattle.std.specs.Prelude.{◌≡◌, ◌<◌, Some};
 ghost use Rattle.flat.specs.Operations.{swiarg};
 ghost use Rattle.telling.specs.Texts.{bit_text, data_text, instruction_text, rest_text, swiargs_text};
 
-use crate::hex::Hex;
-use crate::outcomes::mode_text;
 use crate::rows::{ByteRows, WordRows};
 use flat::{Control, ShownData, ShownInstruction};
+use panel::{Hex, mode_text};
 use std::fmt;
 
 const SWIARGS: usize = 4;
