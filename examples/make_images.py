@@ -108,6 +108,10 @@ def swi(a, b, c, d):
     return word((8, 4), (a, 6), (b, 6), (c, 6), (d, 6), (12, 4))
 
 
+def reti():
+    return word((8, 4), (0, 24), (13, 4))
+
+
 def retx():
     return word((8, 4), (0, 24), (14, 4))
 

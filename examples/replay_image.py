@@ -6,17 +6,18 @@ It lies in these lines of 128 bytes:
 
     line 0    0x000   the supervisor, which starts here, and again at each entry
     line 2    0x100   the user program
-    line 3    0x180   the table: 16 pressures in tenths of a bar, 16 bits each
+    line 3    0x180   the table of the console's image: 16 pressures in tenths of a bar, 16 bits each
     line 4    0x200   the rise
     lines 5 and 6     blank until the program has run: the log, and a line to leave it for
 
-Run it anywhere: it needs nothing but Python 3 and make_images.py beside it, and writes the same bytes each
+Run it anywhere: it needs nothing but Python 3 and the scripts beside it, and writes the same bytes each
 time.
 """
 
 import struct
 
-from make_images import ROOT, arith, code, cpy_in, end, fetch, hand, load, place, swi, word
+from make_images import ROOT, arith, code, cpy_in, end, fetch, hand, load, place, reti, swi
+from press_image import PRESSURES
 
 # Where the parts lie.
 SUPERVISOR = 0x000
@@ -26,17 +27,10 @@ RISE = 0x200
 LOG = 0x280
 SPARE = 0x300
 
-# 85.0 bar to 100.0 bar. The second is 860, and rises by 10.
-PRESSURES = [850 + 10 * n for n in range(16)]
-
 # The supervisor's registers, and the user's.
 D_SECOND, D_FIRST_TWO, D_RISE = 5, 6, 7
 I_USER = 1
 U_SECOND = 8
-
-
-def reti():
-    return word((8, 4), (0, 24), (13, 4))
 
 
 supervisor = [
