@@ -3,7 +3,7 @@ use Rattle.std.proofs.Common.{◌≡◌, ◌⊎◌, inl, inr, subst, ℕ, ℤ, B
 use Rattle.word.specs.declared.opcodes.Form.TheVariants.{Scalar, Vector}
 use Rattle.word.specs.declared.opcodes.Special.TheVariants.{Ie, Xct, Swiarg0, Swiarg1, Swiarg2, Swiarg3}
 use Rattle.word.specs.declared.operations.Operation.{Operation}
-use Rattle.word.specs.declared.operations.Operation.TheVariants.{Arith as Arithmetic, Div, Reduce, Load, Store, Dup, JumpNotZero, JumpZero, CopyOut, CopyIn, Swi, Reti, Retx}
+use Rattle.word.specs.declared.operations.Operation.TheVariants.{Arith as Arithmetic, AddAddress, Div, Reduce, Load, Store, Dup, JumpNotZero, JumpZero, CopyOut, CopyIn, Swi, Reti, Retx}
 use Rattle.store.specs.Meaning.{Meaning}
 use Rattle.file.specs.Data.{stands as data_stands}
 use Rattle.file.specs.Machine.{stands}
@@ -19,14 +19,16 @@ use Rattle.word.specs.declared.opcodes.Arith.{Arith}
 use Rattle.word.specs.declared.opcodes.Form.{Form}
 use Rattle.word.specs.declared.opcodes.Reduction.{Reduction}
 use Rattle.word.specs.declared.opcodes.Special.{Special}
-use Rattle.flat.specs.Operations.{put_at, arithmetic, divide, data_after, instructions_after, control_after, carried_out, moved_on, sent_by}
+use Rattle.flat.specs.Operations.{put_at, arithmetic, add_address, divide, data_after, instructions_after, control_after, carried_out, moved_on, sent_by}
 use Rattle.flat.specs.Raising.{is_taken, moves_on, uneven, uneven_widths, even}
 
 -- what an operation does to the data registers does not depend on the instruction registers
 data_after_go : (op : Operation) (r a : ℕ) (m : Machine) → data_after op (go r a m) ≡ data_after op m
-unfolding data_after arithmetic divide
+unfolding data_after arithmetic add_address divide
 data_after_go (Arithmetic op Scalar x y z) r a m = refl
 data_after_go (Arithmetic op Vector x y z) r a m = refl
+data_after_go (AddAddress Scalar x y z) r a m = refl
+data_after_go (AddAddress Vector x y z) r a m = refl
 data_after_go (Div Scalar x y z w) r a m = refl
 data_after_go (Div Vector x y z w) r a m = refl
 data_after_go (Reduce op x y) r a m = refl
@@ -103,6 +105,10 @@ module _ (m mid : Machine) (moved : Moved m mid) where
   unfolding data_after instructions_after control_after moves_on is_taken
   arith_carried op form a b c = data_carried (Arithmetic op form a b c) m mid refl (λ i. refl) moved refl
 
+  pub address_carried : (form : Form) (a b c : ℕ) → with_data (add_address form a b c mid) mid ≡ carried_out (AddAddress form a b c) m
+  unfolding data_after instructions_after control_after moves_on is_taken
+  address_carried form a b c = data_carried (AddAddress form a b c) m mid refl (λ i. refl) moved refl
+
   pub div_carried : (form : Form) (a b c d : ℕ) → with_data (divide form a b c d mid) mid ≡ carried_out (Div form a b c d) m
   unfolding data_after instructions_after control_after moves_on is_taken
   div_carried form a b c d = data_carried (Div form a b c d) m mid refl (λ i. refl) moved refl
@@ -151,19 +157,19 @@ taken_with m b w t =
     record { data_registers = m.data_registers; instructions = if t then put_at (ipc m) b w m before else before; control = m.control }
 
 pub jump_nonzero_taken : (m : Machine) (a b w : ℕ) → is_taken m (JumpNotZero a b w) ≡ true → go (ipc m) (word_place m b w) m ≡ carried_out (JumpNotZero a b w) m
-unfolding carried_out data_after instructions_after control_after moved_on moves_on
+unfolding carried_out data_after instructions_after control_after moved_on moves_on is_taken
 jump_nonzero_taken m a b w h = sym (ap (taken_with m b w) h)
 
 pub jump_zero_taken : (m : Machine) (a b w : ℕ) → is_taken m (JumpZero a b w) ≡ true → go (ipc m) (word_place m b w) m ≡ carried_out (JumpZero a b w) m
-unfolding carried_out data_after instructions_after control_after moved_on moves_on
+unfolding carried_out data_after instructions_after control_after moved_on moves_on is_taken
 jump_zero_taken m a b w h = sym (ap (taken_with m b w) h)
 
 pub jump_nonzero_on : (m mid : Machine) (a b w : ℕ) → is_taken m (JumpNotZero a b w) ≡ false → Moved m mid → mid ≡ carried_out (JumpNotZero a b w) m
-unfolding data_after instructions_after control_after moves_on
+unfolding data_after instructions_after control_after moves_on is_taken
 jump_nonzero_on m mid a b w h moved = only_moved (JumpNotZero a b w) m mid (ap not h) (λ i. ap (λ (t : Bool). if t then put_at (ipc m) b w m i else i) h) moved refl refl
 
 pub jump_zero_on : (m mid : Machine) (a b w : ℕ) → is_taken m (JumpZero a b w) ≡ false → Moved m mid → mid ≡ carried_out (JumpZero a b w) m
-unfolding data_after instructions_after control_after moves_on
+unfolding data_after instructions_after control_after moves_on is_taken
 jump_zero_on m mid a b w h moved = only_moved (JumpZero a b w) m mid (ap not h) (λ i. ap (λ (t : Bool). if t then put_at (ipc m) b w m i else i) h) moved refl refl
 
 -- the line that is sent back, seen before ipc moved on

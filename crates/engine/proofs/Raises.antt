@@ -6,6 +6,7 @@ use Rattle.std.proofs.lemmas.Int.{to_z-of_z}
 use Rattle.word.specs.Types.{width}
 use Rattle.word.specs.declared.element.ElementType.{ElementType}
 use Rattle.word.specs.declared.opcodes.Form.TheVariants.{Vector}
+use Rattle.word.specs.declared.operations.Operation.{Operation}
 use Rattle.word.specs.declared.operations.Operation.TheVariants.{Div}
 use Rattle.scalar.specs.Arithmetic.{casts_to_zero}
 use Rattle.line.specs.Dividing.{any_zero, somewhere}
@@ -14,8 +15,9 @@ use Rattle.line.proofs.Readback.{recast}
 use Rattle.store.specs.Meaning.{Meaning}
 use Rattle.flat.specs.Machine.{Machine as Flat}
 use Rattle.flat.specs.Operands.{kind_of}
-use Rattle.flat.specs.Raising.{uneven, even, uneven_widths}
+use Rattle.flat.specs.Raising.{rules_of, uneven, even, uneven_widths}
 use Rattle.flat.specs.Registers.{named}
+use Rattle.flat.specs.declared.rules.Divisor.TheVariants.{Cast}
 use Rattle.tags.specs.Names.{Names, Sound}
 use Rattle.tags.specs.Numbers.{number}
 use Rattle.tags.specs.declared.tag.Tag.{Tag}
@@ -30,10 +32,11 @@ pub backing : (f : Machine) (m : Meaning) → (stands f m).data_registers.backin
 unfolding stands data_stands data_of
 backing f m = refl
 
--- in a div of vectors dC has dA's width where the widths are equal
-pub even_divisor : (f : Flat) (a b c d : ℕ) → uneven f (Div Vector a b c d) ≡ false → width (kind_of f c) ≡ width (kind_of f a)
+-- a divisor in vectors has the width of the type that it is cast to, where the widths are equal
+pub even_divisor : (f : Flat) (op : Operation) (a c : ℕ) → (rules_of op).divisor ≡ Cast Vector a c → uneven f op ≡ false → width (kind_of f c) ≡ width (kind_of f a)
 unfolding even uneven_widths
-even_divisor f a b c d e = grind (arith, nat_tests, e)
+even_divisor f (Div Vector a b c d) x z is e = grind (arith, nat_tests, is, e)
+even_divisor f op a c is e = grind (arith, is)
 
 pub found : (s : Names) (n : ℕ) (o : Option Tag) → Sound s → option_map number o ≡ s.tag n → is_some o ≡ named s.address n
 found s n None sound e = sym (named_tag s n None (named s.address n) (sym e) refl sound)

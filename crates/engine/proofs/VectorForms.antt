@@ -1,14 +1,13 @@
 -- What a machine stands for once arithmetic has changed its data registers.
 use Rattle.std.proofs.Math.Path.{fun_ext}
-use Rattle.std.proofs.Common.{◌≡◌, ℕ, ◌*◌, ◌/◌, ◌%◌, false, List, [], ◌∷◌, ℤ, pos, ◌≢◌, refl, sym, subst, ap, ap₂, ◌∙◌}
+use Rattle.std.proofs.Common.{◌≡◌, ℕ, ◌*◌, ◌/◌, ◌%◌, false, List, [], ◌∷◌, ℤ, pos, refl, sym, subst, ap, ap₂, ◌∙◌}
 use Rattle.store.specs.Meaning.{Meaning}
 use Rattle.word.specs.Types.{width, bits}
 use Rattle.word.specs.declared.element.ElementType.{ElementType}
 use Rattle.word.specs.declared.opcodes.Arith.{Arith}
 use Rattle.word.specs.declared.opcodes.Form.TheVariants.{Scalar, Vector}
-use Rattle.word.specs.declared.opcodes.Arith.TheVariants.{Addr}
 use Rattle.word.specs.declared.operations.Operation.{Operation}
-use Rattle.word.specs.declared.operations.Operation.TheVariants.{Arith as Arithmetic, Div}
+use Rattle.word.specs.declared.operations.Operation.TheVariants.{Arith as Arithmetic, AddAddress, Div}
 use Rattle.scalar.specs.Arithmetic.{remainder}
 use Rattle.scalar.specs.Casts.{cast, residue}
 use Rattle.scalar.proofs.Casts.{cast-cast, residue-cast}
@@ -16,7 +15,7 @@ use Rattle.line.specs.Elements.{bytes, splice}
 use Rattle.line.specs.Vectors.{line_of, row}
 use Rattle.flat.specs.Data.{Data, place, shown, write, write_element}
 use Rattle.flat.specs.Machine.{Machine as Flat, with_data}
-use Rattle.flat.specs.Operations.{arithmetic, divide}
+use Rattle.flat.specs.Operations.{arithmetic, add_address, divide}
 use Rattle.flat.specs.Raising.{even, uneven, uneven_widths}
 use Rattle.flat.specs.Registers.{of_mode}
 use Rattle.file.specs.Data.{stands as shows}
@@ -25,8 +24,8 @@ use Rattle.file.specs.Machine.{stands}
 use Rattle.file.specs.Standing.{data_of}
 use Rattle.file.specs.declared.data.DataRegisters.{DataRegisters}
 use Rattle.file.specs.declared.machine.Machine.{Machine}
-use Rattle.engine.specs.Arithmetic.{AsWide, kind, element_at, quotients_of, remainders_of, result_of, results_of}
-use Rattle.engine.proofs.Vectors.{first_wide, second_wide, div_first_wide, div_second_wide, div_last_wide}
+use Rattle.engine.specs.Arithmetic.{AsWide, kind, element_at, quotients_of, remainders_of, result_of, results_of, sum_of, sums_of}
+use Rattle.engine.proofs.Vectors.{first_wide, second_wide, address_wide, div_first_wide, div_second_wide, div_last_wide}
 
 -- a machine with other data registers
 with_registers : (f g : Machine) → g.instructions ≡ f.instructions → g.control ≡ f.control → (after : Flat → Data) → ((m : Meaning) → shows g.registers m ≡ after (stands f m)) → stands g ≡ (λ m. with_data (after (stands f m)) (stands f m))
@@ -66,6 +65,28 @@ vector_stands f g op a b c x y z out h made e_x e_y e_z i e =
     ∙ ap₂ (λ q r. write x (results_of d op x q r) d) e_y e_z
     ∙ ap (λ p. write p (results_of d op p (of_mode f.control.mode (b % 64)) (of_mode f.control.mode (c % 64))) d) e_x)
 
+-- the scalar form of addr, of which a lane of the result is written
+pub sum_stands : (f g : Machine) (a b c x y z lane : ℕ) → shows g.registers ≡ (λ m. write_element x (pos lane) (shows f.registers m)) → ((m : Meaning) → cast (kind (shows f.registers m) x) (pos lane) ≡ sum_of (shows f.registers m) x y z) → x ≡ of_mode f.control.mode (a % 64) → y ≡ of_mode f.control.mode (b % 64) → z ≡ of_mode f.control.mode (c % 64) → g.instructions ≡ f.instructions → g.control ≡ f.control → stands g ≡ (λ m. with_data (add_address Scalar a b c (stands f m)) (stands f m))
+unfolding stands add_address
+sum_stands f g a b c x y z lane h made e_x e_y e_z i e =
+    with_registers f g i e (add_address Scalar a b c) (λ m.
+    let d = shows f.registers m in
+    ap (λ s. s m) h
+    ∙ written_alike d x (pos lane) (sum_of d x y z) (made m ∙ sym (cast-cast (kind d x) _))
+    ∙ ap₂ (λ q r. write_element x (sum_of d x q r) d) e_y e_z
+    ∙ ap (λ p. write_element p (sum_of d p (of_mode f.control.mode (b % 64)) (of_mode f.control.mode (c % 64))) d) e_x)
+
+-- its vector form
+pub sums_stands : (f g : Machine) (a b c x y z : ℕ) (out : List ℕ) → shows g.registers ≡ (λ m. write x out (shows f.registers m)) → ((m : Meaning) → out ≡ sums_of (shows f.registers m) x y z) → x ≡ of_mode f.control.mode (a % 64) → y ≡ of_mode f.control.mode (b % 64) → z ≡ of_mode f.control.mode (c % 64) → g.instructions ≡ f.instructions → g.control ≡ f.control → stands g ≡ (λ m. with_data (add_address Vector a b c (stands f m)) (stands f m))
+unfolding stands add_address
+sums_stands f g a b c x y z out h made e_x e_y e_z i e =
+    with_registers f g i e (add_address Vector a b c) (λ m.
+    let d = shows f.registers m in
+    ap (λ s. s m) h
+    ∙ ap (λ l. write x l d) (made m)
+    ∙ ap₂ (λ q r. write x (sums_of d x q r) d) e_y e_z
+    ∙ ap (λ p. write p (sums_of d p (of_mode f.control.mode (b % 64)) (of_mode f.control.mode (c % 64))) d) e_x)
+
 -- a line of elements of a width
 as_wide : (t s : ElementType) (g : ℕ → ℤ) → width s ≡ width t → line_of t g ≡ line_of s g
 as_wide t s g h = ap (λ n. row n g (128 / n)) (sym h)
@@ -94,9 +115,14 @@ module _ (f : Machine) (op : Arith) (a b c : ℕ) (h : (m : Meaning) → uneven 
   unfolding stands
   arithmetic_second is_s m = subst (λ (d : DataRegisters). AsWide (shows d m) r s) (sym is) (second_wide (stands f m) op a b c (h m) r s is_r is_s)
 
-  pub arithmetic_first : s ≡ of_mode f.control.mode (b % 64) → (m : Meaning) → op ≢ Addr → AsWide (shows d m) r s
+  pub arithmetic_first : s ≡ of_mode f.control.mode (b % 64) → (m : Meaning) → AsWide (shows d m) r s
   unfolding stands
-  arithmetic_first is_s m other = subst (λ (d : DataRegisters). AsWide (shows d m) r s) (sym is) (first_wide (stands f m) op a b c (h m) r s is_r is_s other)
+  arithmetic_first is_s m = subst (λ (d : DataRegisters). AsWide (shows d m) r s) (sym is) (first_wide (stands f m) op a b c (h m) r s is_r is_s)
+
+module _ (f : Machine) (a b c : ℕ) (h : (m : Meaning) → uneven (stands f m) (AddAddress Vector a b c) ≡ false) (d : DataRegisters) (is : d ≡ f.registers) (r s : ℕ) (is_r : r ≡ of_mode f.control.mode (a % 64)) where
+  pub address_second : s ≡ of_mode f.control.mode (c % 64) → (m : Meaning) → AsWide (shows d m) r s
+  unfolding stands
+  address_second is_s m = subst (λ (d : DataRegisters). AsWide (shows d m) r s) (sym is) (address_wide (stands f m) a b c (h m) r s is_r is_s)
 
 module _ (f : Machine) (a b c d : ℕ) (h : (m : Meaning) → uneven (stands f m) (Div Vector a b c d) ≡ false) (e : DataRegisters) (is : e ≡ f.registers) (r s : ℕ) (is_r : r ≡ of_mode f.control.mode (a % 64)) where
   pub divide_first : s ≡ of_mode f.control.mode (b % 64) → (m : Meaning) → AsWide (shows e m) r s
@@ -108,6 +134,8 @@ module _ (f : Machine) (a b c d : ℕ) (h : (m : Meaning) → uneven (stands f m
   divide_second is_s m = subst (λ (e : DataRegisters). AsWide (shows e m) r s) (sym is) (div_second_wide (stands f m) a b c d (h m) r s is_r is_s)
 
 pub ruleset arithmetic_forms = (vector_stands, arithmetic_first, arithmetic_second)
+
+pub ruleset address_forms = (sums_stands, address_second)
 
 pub ruleset divide_forms = (divide_stands, divide_first, divide_second)
 

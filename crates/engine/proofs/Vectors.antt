@@ -1,14 +1,14 @@
 -- Vector forms: lines of one width, each read by its own type.
 use Rattle.std.proofs.Math.Path.{fun_ext}
-use Rattle.std.proofs.Common.{◌≡◌, ◌≢◌, ℕ, Bool, true, false, not, ◌||◌, List, ℤ, pos, sym, refl, ap, ap₂, ◌∙◌, arith}
+use Rattle.std.proofs.Common.{◌≡◌, ℕ, Bool, true, false, not, ◌||◌, List, ℤ, pos, sym, refl, ap, ap₂, ◌∙◌, arith}
 use Rattle.std.specs.Prelude.{◌==◌}
 use Rattle.std.proofs.lemmas.Bool.Decides.{nat_tests}
 use Rattle.word.specs.Types.{width, bits}
 use Rattle.word.specs.declared.element.ElementType.{ElementType}
 use Rattle.word.specs.declared.opcodes.Arith.{Arith}
-use Rattle.word.specs.declared.opcodes.Arith.TheVariants.{Add, Sub, Slt, Mul, And, Or, Xor, Shl, Shr, Rol, Ror, Addr}
+use Rattle.word.specs.declared.opcodes.Arith.TheVariants.{Add}
 use Rattle.word.specs.declared.opcodes.Form.TheVariants.{Vector}
-use Rattle.word.specs.declared.operations.Operation.TheVariants.{Arith as Arithmetic, Div}
+use Rattle.word.specs.declared.operations.Operation.TheVariants.{Arith as Arithmetic, AddAddress, Div}
 use Rattle.scalar.specs.Arithmetic.{compute, cut_quotient, cut_remainder}
 use Rattle.scalar.specs.Casts.{cast}
 use Rattle.line.specs.Dividing.{quotient_line, remainder_line}
@@ -19,10 +19,9 @@ use Rattle.line.proofs.Rows.{element-cast}
 use Rattle.flat.specs.Data.{Data, shown}
 use Rattle.flat.specs.Machine.{Machine}
 use Rattle.flat.specs.Operands.{kind_of, reg}
-use Rattle.flat.specs.Operations.{first_operand}
 use Rattle.flat.specs.Raising.{uneven, uneven_widths, even}
 use Rattle.flat.specs.declared.registers.DataRegister.{DataRegister}
-use Rattle.engine.specs.Arithmetic.{AsWide, quotients_of, remainders_of, results_of}
+use Rattle.engine.specs.Arithmetic.{AsWide, quotients_of, remainders_of, results_of, sums_of}
 
 -- lines of the same elements
 same_line : (t : ElementType) (f g : ℕ → ℤ) → ((k : ℕ) → f k ≡ g k) → line_of t f ≡ line_of t g
@@ -32,44 +31,27 @@ same_line t f g h = ap (line_of t) (fun_ext h)
 cast_even : (t s : ElementType) (line : List ℕ) (k : ℕ) → width s ≡ width t → cast t (element t line k) ≡ cast t (element s line k)
 cast_even t s line k e = element-cast t line k ∙ sym (recast t s (sym e) line k)
 
--- the first operand of all but addr
-first_element : (op : Arith) (address : ℕ) (x : ℤ) → op ≢ Addr → first_operand op address x ≡ x
-first_element Add address x h = refl
-first_element Sub address x h = refl
-first_element Slt address x h = refl
-first_element Mul address x h = refl
-first_element And address x h = refl
-first_element Or address x h = refl
-first_element Xor address x h = refl
-first_element Shl address x h = refl
-first_element Shr address x h = refl
-first_element Rol address x h = refl
-first_element Ror address x h = refl
-first_element Addr address x h = absurd (h refl)
-
 module _ (d : Data) (op : Arith) (a b c : ℕ) (ra : DataRegister) (is : ra ≡ d.registers a) (y out : List ℕ) (on_y : y ≡ shown d c) (even_c : AsWide d a c) where
-  pub vector_results : (x : List ℕ) → x ≡ shown d b → op ≢ Addr → AsWide d a b → out ≡ vector op ra.kind x y → out ≡ results_of d op a b c
-  vector_results x on_x other even_b h =
+  pub vector_results : (x : List ℕ) → x ≡ shown d b → AsWide d a b → out ≡ vector op ra.kind x y → out ≡ results_of d op a b c
+  vector_results x on_x even_b h =
       let t = (d.registers a).kind in
       let s = (d.registers b).kind in
       let u = (d.registers c).kind in
-      let first : (k : ℕ) → cast t (element t (shown d b) k) ≡ cast t (first_operand op (d.registers b).address (element s (shown d b) k)) =
-      λ k. cast_even t s (shown d b) k even_b ∙ ap (cast t) (sym (first_element op (d.registers b).address (element s (shown d b) k) other)) in
       h
       ∙ ap (λ r. vector op r.kind x y) is
       ∙ ap₂ (λ v w. vector op t v w) on_x on_y
-      ∙ same_line t _ _ (λ k. ap₂ (λ v w. cast t (compute op (bits t) v w)) (first k) (cast_even t u (shown d c) k even_c))
+      ∙ same_line t _ _ (λ k. ap₂ (λ v w. cast t (compute op (bits t) v w)) (cast_even t s (shown d b) k even_b) (cast_even t u (shown d c) k even_c))
 
-  pub addr_results : (rb : DataRegister) → rb ≡ d.registers b → op ≡ Addr → out ≡ vector_addr ra.kind rb.address y → out ≡ results_of d op a b c
-  addr_results rb is_b addr h =
+module _ (d : Data) (a b c : ℕ) (ra : DataRegister) (is : ra ≡ d.registers a) (y out : List ℕ) (on_y : y ≡ shown d c) (even_c : AsWide d a c) where
+  pub addr_results : (rb : DataRegister) → rb ≡ d.registers b → out ≡ vector_addr ra.kind rb.address y → out ≡ sums_of d a b c
+  addr_results rb is_b h =
       let t = (d.registers a).kind in
       let u = (d.registers c).kind in
       h
       ∙ ap (λ r. vector_addr r.kind rb.address y) is
       ∙ ap (λ r. vector_addr t r.address y) is_b
       ∙ ap (λ w. vector_addr t (d.registers b).address w) on_y
-      ∙ same_line t _ _ (λ k. ap (λ w. cast t (compute Addr (bits t) (cast t (pos (d.registers b).address)) w)) (cast_even t u (shown d c) k even_c))
-      ∙ ap (λ o. results_of d o a b c) (sym addr)
+      ∙ same_line t _ _ (λ k. ap (λ w. cast t (compute Add (bits t) (cast t (pos (d.registers b).address)) w)) (cast_even t u (shown d c) k even_c))
 
 -- a line made of the elements of two lines, cast
 abbrev made_of : (ElementType → ℤ → ℤ → ℤ) → (t s u : ElementType) → List ℕ → List ℕ → List ℕ
@@ -93,7 +75,9 @@ module _ (d : Data) (a b c : ℕ) (ra : DataRegister) (is : ra ≡ d.registers a
   pub remainder_lines : out ≡ remainder_line ra.kind x y → out ≡ remainders_of d a b c
   remainder_lines h = divided_lines d a b c ra is x y on_x on_y even_b even_c (λ t v w. cut_remainder v w) out h
 
-pub ruleset arithmetic_lines = (vector_results, addr_results)
+pub ruleset arithmetic_lines = (vector_results)
+
+pub ruleset address_lines = (addr_results)
 
 pub ruleset division_lines = (quotient_lines, remainder_lines)
 
@@ -105,50 +89,16 @@ equal_width x y rest h = by (x == y) refl h
     by true e h = (grind (arith, nat_tests, e), h)
     by false e h = absurd cc
 
-second_even : (m : Machine) (op : Arith) (a b c : ℕ) → uneven m (Arithmetic op Vector a b c) ≡ false → width (kind_of m c) ≡ width (kind_of m a)
+arith_even : (m : Machine) (op : Arith) (a b c : ℕ) → uneven m (Arithmetic op Vector a b c) ≡ false → (width (kind_of m b) ≡ width (kind_of m a)) × (width (kind_of m c) ≡ width (kind_of m a))
 unfolding uneven_widths even
-second_even m op a b c h = by op h
-  where
-    last : (not (width (kind_of m b) == width (kind_of m a)) || (not (width (kind_of m c) == width (kind_of m a)) || false)) ≡ false → width (kind_of m c) ≡ width (kind_of m a)
-    last h =
-        let kind = width (kind_of m a) in
-        let first = equal_width (width (kind_of m b)) kind (not (width (kind_of m c) == kind) || false) h in
-        (equal_width (width (kind_of m c)) kind false first.1).0
+arith_even m op a b c h =
+    let kind = width (kind_of m a) in
+    let first = equal_width (width (kind_of m b)) kind (not (width (kind_of m c) == kind) || false) h in
+    (first.0, (equal_width (width (kind_of m c)) kind false first.1).0)
 
-    by : (op : Arith) → uneven m (Arithmetic op Vector a b c) ≡ false → width (kind_of m c) ≡ width (kind_of m a)
-    by Add h = last h
-    by Sub h = last h
-    by Slt h = last h
-    by Mul h = last h
-    by And h = last h
-    by Or h = last h
-    by Xor h = last h
-    by Shl h = last h
-    by Shr h = last h
-    by Rol h = last h
-    by Ror h = last h
-    by Addr h = (equal_width (width (kind_of m c)) (width (kind_of m a)) false h).0
-
-first_even : (m : Machine) (op : Arith) (a b c : ℕ) → uneven m (Arithmetic op Vector a b c) ≡ false → op ≢ Addr → width (kind_of m b) ≡ width (kind_of m a)
+address_even : (m : Machine) (a b c : ℕ) → uneven m (AddAddress Vector a b c) ≡ false → width (kind_of m c) ≡ width (kind_of m a)
 unfolding uneven_widths even
-first_even m op a b c h other = by op h other
-  where
-    first : (not (width (kind_of m b) == width (kind_of m a)) || (not (width (kind_of m c) == width (kind_of m a)) || false)) ≡ false → width (kind_of m b) ≡ width (kind_of m a)
-    first h = (equal_width (width (kind_of m b)) (width (kind_of m a)) (not (width (kind_of m c) == width (kind_of m a)) || false) h).0
-
-    by : (op : Arith) → uneven m (Arithmetic op Vector a b c) ≡ false → op ≢ Addr → width (kind_of m b) ≡ width (kind_of m a)
-    by Add h _ = first h
-    by Sub h _ = first h
-    by Slt h _ = first h
-    by Mul h _ = first h
-    by And h _ = first h
-    by Or h _ = first h
-    by Xor h _ = first h
-    by Shl h _ = first h
-    by Shr h _ = first h
-    by Rol h _ = first h
-    by Ror h _ = first h
-    by Addr h other = absurd (other refl)
+address_even m a b c h = (equal_width (width (kind_of m c)) (width (kind_of m a)) false h).0
 
 -- the registers that the fields name
 wide : (m : Machine) (a b r s : ℕ) → r ≡ reg m a → s ≡ reg m b → width (kind_of m b) ≡ width (kind_of m a) → AsWide m.data_registers r s
@@ -158,10 +108,14 @@ wide m a b r s e f h =
 
 module _ (m : Machine) (op : Arith) (a b c : ℕ) (h : uneven m (Arithmetic op Vector a b c) ≡ false) (r s : ℕ) (is_r : r ≡ reg m a) where
   pub second_wide : s ≡ reg m c → AsWide m.data_registers r s
-  second_wide is_s = wide m a c r s is_r is_s (second_even m op a b c h)
+  second_wide is_s = wide m a c r s is_r is_s (arith_even m op a b c h).1
 
-  pub first_wide : s ≡ reg m b → op ≢ Addr → AsWide m.data_registers r s
-  first_wide is_s other = wide m a b r s is_r is_s (first_even m op a b c h other)
+  pub first_wide : s ≡ reg m b → AsWide m.data_registers r s
+  first_wide is_s = wide m a b r s is_r is_s (arith_even m op a b c h).0
+
+module _ (m : Machine) (a b c : ℕ) (h : uneven m (AddAddress Vector a b c) ≡ false) (r s : ℕ) (is_r : r ≡ reg m a) where
+  pub address_wide : s ≡ reg m c → AsWide m.data_registers r s
+  address_wide is_s = wide m a c r s is_r is_s (address_even m a b c h)
 
 div_even : (m : Machine) (a b c d : ℕ) → uneven m (Div Vector a b c d) ≡ false → (width (kind_of m b) ≡ width (kind_of m a)) × (width (kind_of m c) ≡ width (kind_of m a)) × (width (kind_of m d) ≡ width (kind_of m a))
 unfolding uneven_widths even

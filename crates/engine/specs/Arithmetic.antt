@@ -1,15 +1,15 @@
 -- What an operation makes of what registers show, before it is written.
-use Rattle.std.specs.Prelude.{◌≡◌, ℕ, List, ℤ}
+use Rattle.std.specs.Prelude.{◌≡◌, ℕ, List, ℤ, pos}
 use Rattle.word.specs.Types.{width}
 use Rattle.word.specs.declared.element.ElementType.{ElementType}
 use Rattle.word.specs.declared.opcodes.Arith.{Arith}
+use Rattle.word.specs.declared.opcodes.Arith.TheVariants.{Add}
 use Rattle.word.specs.declared.opcodes.Reduction.{Reduction}
 use Rattle.line.specs.Elements.{element}
 use Rattle.line.specs.Reductions.{reduced}
 use Rattle.line.specs.Vectors.{line_of}
 use Rattle.scalar.specs.Arithmetic.{computed, quotient, remainder}
 use Rattle.flat.specs.Data.{Data, addresses, shown, shown_element}
-use Rattle.flat.specs.Operations.{first_operand}
 
 -- A register's type.
 abbrev pub kind : Data → ℕ → ElementType
@@ -19,17 +19,20 @@ kind d r = (d.registers r).kind
 abbrev pub element_at : Data → ℕ → ℕ → ℤ
 element_at d r k = element (kind d r) (shown d r) k
 
--- The first operand of a scalar form, from register b.
-abbrev pub first_of : Data → Arith → ℕ → ℤ
-first_of d op b = first_operand op (addresses d b) (shown_element d b)
-
 -- The result of a scalar form, of registers b and c at the type of register a.
 abbrev pub result_of : Data → Arith → ℕ → ℕ → ℕ → ℤ
-result_of d op a b c = computed op (kind d a) (first_of d op b) (shown_element d c)
+result_of d op a b c = computed op (kind d a) (shown_element d b) (shown_element d c)
 
 -- The line of results of a vector form.
 abbrev pub results_of : Data → Arith → ℕ → ℕ → ℕ → List ℕ
-results_of d op a b c = line_of (kind d a) (λ k. computed op (kind d a) (first_operand op (addresses d b) (element_at d b k)) (element_at d c k))
+results_of d op a b c = line_of (kind d a) (λ k. computed op (kind d a) (element_at d b k) (element_at d c k))
+
+-- The same of addr, of register b's address.
+abbrev pub sum_of : Data → ℕ → ℕ → ℕ → ℤ
+sum_of d a b c = computed Add (kind d a) (pos (addresses d b)) (shown_element d c)
+
+abbrev pub sums_of : Data → ℕ → ℕ → ℕ → List ℕ
+sums_of d a b c = line_of (kind d a) (λ k. computed Add (kind d a) (pos (addresses d b)) (element_at d c k))
 
 -- A register's type is as wide as that of register a.
 abbrev pub AsWide : Data → ℕ → ℕ → Type 0

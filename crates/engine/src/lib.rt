@@ -12,6 +12,7 @@ mod fetching;
 mod operands;
 mod raising;
 mod recording;
+mod rules;
 mod running;
 mod stepping;
 

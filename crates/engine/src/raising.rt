@@ -1,12 +1,16 @@
 // Which exception the machine enters instead of carrying out an operation. Each test has the name of the
 // flat machine's definition.
-ghost use Rattle.std.specs.Prelude.{◌≡◌, ◌+◌, ◌==◌, ◌&&◌, false, not, nat_lt};
+ghost use Rattle.std.specs.Prelude.{◌≡◌, ℕ, ◌+◌, ◌%◌, ◌==◌, ◌&&◌, not, nat_lt};
 ghost use Rattle.word.specs.Types.{width};
 ghost use Rattle.line.specs.Dividing.{somewhere};
 ghost use Rattle.store.specs.Meaning.{Meaning};
 ghost use Rattle.flat.specs.Instructions.{addresses};
+ghost use Rattle.flat.specs.Machine.{ipc_address as flat_ipc_address};
 ghost use Rattle.flat.specs.Operands.{kind_of, fetch_target};
-ghost use Rattle.flat.specs.Raising.{forbidden, too_wide, uneven, is_missing, missing, own_fixed, fixed, by_zero, is_taken, moves_on, no_next_line, raised};
+ghost use Rattle.flat.specs.Operands.{next_address as flat_next_address};
+ghost use Rattle.flat.specs.Raising.{narrow_fields, even_fields, some_wide, uneven_widths, is_missing, needs_missing, own_fixed, some_fixed, is_zero_divisor, leaves, is_taken, goes_on, raised};
+ghost use Rattle.flat.specs.declared.rules.Divisor.TheVariants.{Cast};
+ghost use Rattle.word.specs.declared.opcodes.Form.TheVariants.{Vector};
 ghost use Rattle.flat.specs.Registers.{line_of, named};
 ghost use Rattle.flat.specs.Registers.{is_zero as is_zero_register};
 ghost use Rattle.file.specs.Machine.{stands};
@@ -14,32 +18,14 @@ ghost use Rattle.file.specs.Machine.{stands};
 use crate::operands::{
     address, bytes, element, fetch_target, ipc_address, kind, next_address, register, target,
 };
+use crate::rules::rules_of;
 use file::Machine;
-use flat::{Exception, Mode};
+use flat::{Divisor, Even, Exception, Goes, Mode, Narrow, Needs, Writes};
 use line::{has_zero, same_width};
 use scalar::is_zero;
 use store::Store;
 use tags::Register;
 use word::{Arith, Form, Operation, Reduction};
-
-// Hand, reti, retx and cpy are the supervisor's.
-#[tactic(auto, unfolding(flat::specs::Raising::reserved))]
-#[inline(always)]
-fn forbidden(mode: Mode, op: Operation) -> Option<Exception>
-    ensures { result ≡ forbidden mode op }
-{
-    if mode == Mode::Supervisor {
-        return None;
-    }
-    match op {
-        Operation::Hand { .. } => Some(Exception::Undefined),
-        Operation::Reti => Some(Exception::UserReti),
-        Operation::Retx => Some(Exception::UserRetx),
-        Operation::CopyOut { from, .. } => Some(Exception::UserCopyOut(from)),
-        Operation::CopyIn { to, .. } => Some(Exception::UserCopyIn(to)),
-        _ => None,
-    }
-}
 
 // Whether the register of a field is 64 bits wide.
 fn is_wide(machine: &Machine, field: u8) -> bool
@@ -49,26 +35,24 @@ fn is_wide(machine: &Machine, field: u8) -> bool
 }
 
 // Whether a register that must not be is 64 bits wide.
-#[tactic(auto, unfolding(flat::specs::Raising::too_wide, flat::specs::Raising::narrow))]
 #[inline(always)]
-fn too_wide(machine: &Machine, op: Operation) -> bool
-    ensures { (m : Meaning) → result ≡ too_wide (stands machine.now m) op }
+fn some_wide(machine: &Machine, narrow: Narrow) -> bool
+    ensures { (m : Meaning) → result ≡ some_wide (stands machine.now m) (narrow_fields narrow) }
 {
-    match op {
-        Operation::Arith { op, a, b, c, .. } => match op {
+    match narrow {
+        Narrow::NoField => false,
+        Narrow::One(a) => is_wide(machine, a),
+        Narrow::Two(a, c) => is_wide(machine, a) || is_wide(machine, c),
+        Narrow::OfArith { op, a, b, c } => match op {
             Arith::Slt | Arith::Mul | Arith::Shl | Arith::Shr | Arith::Rol | Arith::Ror => {
                 is_wide(machine, a) || is_wide(machine, b) || is_wide(machine, c)
             }
-            Arith::Addr => is_wide(machine, a) || is_wide(machine, c),
             Arith::Add | Arith::Sub | Arith::And | Arith::Or | Arith::Xor => false,
         },
-        Operation::Div { c, .. } => is_wide(machine, c),
-        Operation::Reduce {
-            op: Reduction::Mul | Reduction::Max | Reduction::Min,
-            a,
-            ..
-        } => is_wide(machine, a),
-        _ => false,
+        Narrow::OfReduction { op, a } => match op {
+            Reduction::Mul | Reduction::Max | Reduction::Min => is_wide(machine, a),
+            Reduction::Add | Reduction::And => false,
+        },
     }
 }
 
@@ -80,48 +64,40 @@ fn differs(machine: &Machine, field: u8, a: u8) -> bool
 }
 
 // Whether the widths of a vector form are unequal.
-#[tactic(auto, unfolding(flat::specs::Raising::even, flat::specs::Raising::uneven_widths))]
+#[tactic(auto, unfolding(flat::specs::Raising::uneven_widths))]
 #[inline(always)]
-fn uneven(machine: &Machine, op: Operation) -> bool
-    ensures { (m : Meaning) → result ≡ uneven (stands machine.now m) op }
+fn uneven_widths(machine: &Machine, even: Even) -> bool
+    ensures { (m : Meaning) → result ≡ uneven_widths (stands machine.now m) (even_fields even) }
 {
-    match op {
-        Operation::Arith {
-            op: Arith::Addr,
-            form: Form::Vector,
-            a,
-            c,
-            ..
-        } => differs(machine, c, a),
-        Operation::Arith {
-            form: Form::Vector,
-            a,
-            b,
-            c,
-            ..
-        } => { differs(machine, b, a) || differs(machine, c, a) }
-        Operation::Div {
-            form: Form::Vector,
-            a,
-            b,
-            c,
-            d,
-        } => { differs(machine, b, a) || differs(machine, c, a) || differs(machine, d, a) }
-        _ => false,
+    match even {
+        Even::AnyWidths => false,
+        Even::Two { form, a, c } => match form {
+            Form::Scalar => false,
+            Form::Vector => differs(machine, c, a),
+        },
+        Even::Three { form, a, b, c } => match form {
+            Form::Scalar => false,
+            Form::Vector => differs(machine, b, a) || differs(machine, c, a),
+        },
+        Even::Four { form, a, b, c, d } => match form {
+            Form::Scalar => false,
+            Form::Vector => {
+                differs(machine, b, a) || differs(machine, c, a) || differs(machine, d, a)
+            }
+        },
     }
 }
 
-// Load, store or fetch of a line that is not below the store's size.
-#[tactic(auto, using(crate::proofs::Raises::over_store), unfolding(flat::specs::Raising::missing))]
+// Whether one of the lines that must be there is not below the store's size.
+#[tactic(auto, using(crate::proofs::Raises::over_store))]
 #[inline(always)]
-fn missing<S: Store>(machine: &Machine, op: Operation, store: &S) -> bool
-    ensures { result ≡ missing (stands machine.now (S.meaning store.now)) op }
+fn needs_missing<S: Store>(machine: &Machine, needs: Needs, store: &S) -> bool
+    ensures { result ≡ needs_missing (stands machine.now (S.meaning store.now)) needs }
 {
-    match op {
-        Operation::Load { b, i, .. } => is_missing(target(machine, b, i), store),
-        Operation::Store { b, i, .. } => is_missing(target(machine, b, i), store),
-        Operation::Fetch { b, i, j, .. } => fetch_missing(machine, b, i, j, store),
-        _ => false,
+    match needs {
+        Needs::NoLine => false,
+        Needs::Target { b, i } => is_missing(target(machine, b, i), store),
+        Needs::Fetched { b, i, j } => fetch_missing(machine, b, i, j, store),
     }
 }
 
@@ -163,64 +139,70 @@ fn own_fixed<S: Store>(machine: &Machine, field: u8, store: &S) -> bool
     )
 }
 
-// Bytes written to a line that cannot be written.
-#[tactic(auto, using(crate::proofs::Raises::over_store), unfolding(flat::specs::Raising::fixed, file::specs::Machine::stands))]
+// Whether one of the lines that get bytes cannot be written.
+#[tactic(auto, using(crate::proofs::Raises::over_store), unfolding(file::specs::Machine::stands))]
 #[inline(always)]
-fn fixed<S: Store>(machine: &Machine, op: Operation, store: &S) -> bool
-    ensures { result ≡ fixed (stands machine.now (S.meaning store.now)) op }
+fn some_fixed<S: Store>(machine: &Machine, writes: Writes, store: &S) -> bool
+    ensures { result ≡ some_fixed (stands machine.now (S.meaning store.now)) writes }
 {
-    match op {
-        Operation::Arith { a, .. }
-        | Operation::Reduce { a, .. }
-        | Operation::Dup { a, .. }
-        | Operation::CopyOut { a, .. } => own_fixed(machine, a, store),
-        Operation::Div { a, d, .. } => own_fixed(machine, a, store) || own_fixed(machine, d, store),
-        Operation::Store { a, b, i, .. } => {
+    match writes {
+        Writes::Nothing => false,
+        Writes::Own(a) => own_fixed(machine, a, store),
+        Writes::Both(a, d) => own_fixed(machine, a, store) || own_fixed(machine, d, store),
+        Writes::There { a, b, i } => {
             writes_fixed(register(machine, a), target(machine, b, i) / 128, store)
         }
-        _ => false,
     }
 }
 
-// A divisor that is zero after its cast. (Types of unequal width are refused before, and elements of types
-// of equal width are those of the one type cast to the other.)
-#[tactic(auto, using(scalar::proofs::Casts::passed_on), unfolding(flat::specs::Raising::by_zero))]
+// Whether a divisor is zero after its cast. (Elements of types of equal width are those of the one type cast
+// to the other.)
+#[tactic(auto, using(scalar::proofs::Casts::passed_on))]
 #[inline(always)]
-fn by_zero(machine: &Machine, op: Operation) -> bool
-    requires { (m : Meaning) → uneven (stands machine.now m) op ≡ false }
-    ensures { (m : Meaning) → result ≡ by_zero (stands machine.now m) op }
+fn is_zero_divisor(machine: &Machine, divisor: Divisor) -> bool
+    requires { (m : Meaning) (a c : ℕ) → divisor ≡ Cast Vector a c → width (kind_of (stands machine.now m) c) ≡ width (kind_of (stands machine.now m) a) }
+    ensures { (m : Meaning) → result ≡ is_zero_divisor (stands machine.now m) divisor }
 {
-    match op {
-        Operation::Div { form, a, c, .. } => match form {
+    match divisor {
+        Divisor::Absent => false,
+        Divisor::Cast { form, a, c } => match form {
             Form::Scalar => is_zero(kind(machine, a), element(machine, c)),
             Form::Vector => has_zero(kind(machine, a), bytes(machine, c)),
         },
-        _ => false,
     }
 }
 
 // A jump if not zero is taken when dA's element is not zero, a jump if zero when it is.
+#[tactic(auto, unfolding(flat::specs::Raising::leaves))]
+#[inline(always)]
+fn leaves(machine: &Machine, goes: Goes) -> bool
+    ensures { (m : Meaning) → result ≡ leaves (stands machine.now m) goes }
+{
+    match goes {
+        Goes::OnIfZero(a) => element(machine, a) != 0,
+        Goes::OnIfNotZero(a) => element(machine, a) == 0,
+        Goes::On | Goes::Nowhere => false,
+    }
+}
+
+// Whether a jump is taken.
 #[tactic(auto, unfolding(flat::specs::Raising::is_taken))]
 #[inline(always)]
 pub(crate) fn is_taken(machine: &Machine, op: Operation) -> bool
     ensures { (m : Meaning) → result ≡ is_taken (stands machine.now m) op }
 {
-    match op {
-        Operation::JumpNotZero { a, .. } => element(machine, a) != 0,
-        Operation::JumpZero { a, .. } => element(machine, a) == 0,
-        _ => false,
-    }
+    leaves(machine, rules_of(op).goes)
 }
 
 // ipc goes to the next word after every operation but a taken jump, reti and retx.
-#[tactic(auto, unfolding(flat::specs::Raising::moves_on))]
 #[inline(always)]
-pub(crate) fn moves_on(machine: &Machine, op: Operation) -> bool
-    ensures { (m : Meaning) → result ≡ moves_on (stands machine.now m) op }
+fn goes_on(machine: &Machine, goes: Goes) -> bool
+    ensures { (m : Meaning) → result ≡ goes_on (stands machine.now m) goes }
 {
-    match op {
-        Operation::Reti | Operation::Retx => false,
-        _ => !is_taken(machine, op),
+    match goes {
+        Goes::On => true,
+        Goes::OnIfZero(_) | Goes::OnIfNotZero(_) => !leaves(machine, goes),
+        Goes::Nowhere => false,
     }
 }
 
@@ -235,41 +217,43 @@ fn is_named(machine: &Machine, line: u32) -> bool
 }
 
 // ipc would pass word 31, and no instruction register names the next line.
-#[tactic(auto, unfolding(flat::specs::Raising::no_next_line))]
 #[inline(always)]
-fn no_next_line(machine: &Machine, op: Operation) -> bool
-    ensures { (m : Meaning) → result ≡ no_next_line (stands machine.now m) op }
+fn passes_line(machine: &Machine, goes: Goes) -> bool
+    ensures { (m : Meaning) → let f = stands machine.now m in result ≡ (goes_on f goes && (flat_ipc_address f % 128 == 124) && not (named (addresses f.instructions) (line_of (flat_next_address f)))) }
 {
     ipc_address(machine) % 128 == 124
-        && moves_on(machine, op)
+        && goes_on(machine, goes)
         && !is_named(machine, next_address(machine) / 128)
 }
 
 // The first exception that applies.
-#[tactic(auto, unfolding(flat::specs::Raising::raised, flat::specs::Raising::first, file::specs::Machine::stands))]
+#[tactic(auto, unfolding(flat::specs::Raising::raised, flat::specs::Raising::first, flat::specs::Raising::reserved, flat::specs::Raising::too_wide, flat::specs::Raising::narrow, flat::specs::Raising::even, flat::specs::Raising::missing, flat::specs::Raising::fixed, flat::specs::Raising::by_zero, flat::specs::Raising::no_next_line, flat::specs::Raising::moves_on, file::specs::Machine::stands))]
 #[inline(always)]
 pub(crate) fn raised<S: Store>(machine: &Machine, op: Operation, store: &S) -> Option<Exception>
     ensures { result ≡ raised (stands machine.now (S.meaning store.now)) op }
 {
-    if let Some(exception) = forbidden(machine.control.mode, op) {
-        return Some(exception);
+    let rules = rules_of(op);
+    if machine.control.mode == Mode::User {
+        if let Some(exception) = rules.in_user_mode {
+            return Some(exception);
+        }
     }
-    if too_wide(machine, op) {
+    if some_wide(machine, rules.not_wide) {
         return Some(Exception::Wide);
     }
-    if uneven(machine, op) {
+    if uneven_widths(machine, rules.one_width) {
         return Some(Exception::Undefined);
     }
-    if missing(machine, op, store) {
+    if needs_missing(machine, rules.needs, store) {
         return Some(Exception::MissingLine);
     }
-    if fixed(machine, op, store) {
+    if some_fixed(machine, rules.writes, store) {
         return Some(Exception::FixedLine);
     }
-    if by_zero(machine, op) {
+    if is_zero_divisor(machine, rules.divisor) {
         return Some(Exception::ZeroDivisor);
     }
-    if no_next_line(machine, op) {
+    if passes_line(machine, rules.goes) {
         return Some(Exception::NextLine);
     }
     None

@@ -7,7 +7,7 @@ ghost use Rattle.store.specs.Meaning.{Meaning};
 ghost use Rattle.file.specs.Machine.{stands};
 ghost use Rattle.engine.specs.Entering.{Did};
 
-use crate::arithmetic::{arithmetic, reduce};
+use crate::arithmetic::{add_address, arithmetic, reduce};
 use crate::controlling::{copy_in, reti, retx, swi};
 use crate::data_moves::{copy_out, dup, load, store as store_line};
 use crate::dividing::divide;
@@ -37,6 +37,10 @@ fn carry_out<S: Store>(machine: &mut Machine, op: Operation, store: &mut S) -> O
         Operation::Arith { op, form, a, b, c } => {
             move_on(machine, store);
             arithmetic(machine, op, form, a, b, c);
+        }
+        Operation::AddAddress { form, a, b, c } => {
+            move_on(machine, store);
+            add_address(machine, form, a, b, c);
         }
         Operation::Div { form, a, b, c, d } => {
             move_on(machine, store);
@@ -106,7 +110,21 @@ fn do_operation<S: Store>(machine: &mut Machine, op: Operation, store: &mut S) -
     let sent = carry_out(machine, op, store);
     match op {
         Operation::Swi { .. } => enter(machine, Exception::Software, store),
-        _ => AfterStep {
+        Operation::Arith { .. }
+        | Operation::AddAddress { .. }
+        | Operation::Div { .. }
+        | Operation::Reduce { .. }
+        | Operation::Load { .. }
+        | Operation::Store { .. }
+        | Operation::Dup { .. }
+        | Operation::Fetch { .. }
+        | Operation::JumpNotZero { .. }
+        | Operation::JumpZero { .. }
+        | Operation::Hand { .. }
+        | Operation::CopyOut { .. }
+        | Operation::CopyIn { .. }
+        | Operation::Reti
+        | Operation::Retx => AfterStep {
             answer: Stepped::Done,
             sent,
         },

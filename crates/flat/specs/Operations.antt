@@ -2,12 +2,12 @@
 use Rattle.std.specs.Prelude.{ℕ, suc, ◌+◌, true, if◌then◌else◌, List, [], ◌∷◌, set, get_or, None, Option, ◌==◌, ℤ, pos}
 use Rattle.word.specs.declared.element.ElementType.{ElementType}
 use Rattle.word.specs.declared.opcodes.Arith.{Arith}
-use Rattle.word.specs.declared.opcodes.Arith.TheVariants.{Addr}
+use Rattle.word.specs.declared.opcodes.Arith.TheVariants.{Add}
 use Rattle.word.specs.declared.opcodes.Form.{Form}
 use Rattle.word.specs.declared.opcodes.Form.TheVariants.{Scalar, Vector}
 use Rattle.word.specs.declared.opcodes.Special.TheVariants.{Ie, Xct, Swiarg0, Swiarg1, Swiarg2, Swiarg3}
 use Rattle.word.specs.declared.operations.Operation.{Operation}
-use Rattle.word.specs.declared.operations.Operation.TheVariants.{Arith as Arithmetic, Div, Reduce, Load, Store, Dup, Fetch, JumpNotZero, JumpZero, Hand, CopyOut, CopyIn, Swi, Reti, Retx}
+use Rattle.word.specs.declared.operations.Operation.TheVariants.{Arith as Arithmetic, AddAddress, Div, Reduce, Load, Store, Dup, Fetch, JumpNotZero, JumpZero, Hand, CopyOut, CopyIn, Swi, Reti, Retx}
 use Rattle.line.specs.Reductions.{over, reduced}
 use Rattle.line.specs.Vectors.{line_of as elements, filled}
 use Rattle.scalar.specs.Arithmetic.{computed, quotient, remainder}
@@ -21,19 +21,19 @@ use Rattle.flat.specs.Registers.{zeros, of_mode, is_zero, line_of}
 use Rattle.flat.specs.declared.control.Control.{Control}
 use Rattle.flat.specs.declared.control.Mode.TheVariants.{User}
 
--- The first operand of group 0 is dB's element; for addr it is dB's address.
-abbrev pub first_operand : Arith → ℕ → ℤ → ℤ
-first_operand Addr address x = pos address
-first_operand op address x = x
-
 -- What group 0 makes of an element x of dB and an element y of dC, both cast to dA's type; the result is cast too.
-abbrev pub result : Machine → Arith → ℕ → ℕ → ℤ → ℤ → ℤ
-result m op a b x y = computed op (kind_of m a) (first_operand op (address_of m b) x) y
+abbrev pub result : Machine → Arith → ℕ → ℤ → ℤ → ℤ
+result m op a x y = computed op (kind_of m a) x y
 
 -- It goes to dA's element; the vector form does so at each element place.
 unfoldable pub arithmetic : Arith → Form → ℕ → ℕ → ℕ → Machine → Data
-arithmetic op Scalar a b c m = write_element (reg m a) (result m op a b (element_of m b) (element_of m c)) m.data_registers
-arithmetic op Vector a b c m = write (reg m a) (elements (kind_of m a) (λ k. result m op a b (element_at m b k) (element_at m c k))) m.data_registers
+arithmetic op Scalar a b c m = write_element (reg m a) (result m op a (element_of m b) (element_of m c)) m.data_registers
+arithmetic op Vector a b c m = write (reg m a) (elements (kind_of m a) (λ k. result m op a (element_at m b k) (element_at m c k))) m.data_registers
+
+-- Addr is add with dB's address in the place of its element.
+unfoldable pub add_address : Form → ℕ → ℕ → ℕ → Machine → Data
+add_address Scalar a b c m = write_element (reg m a) (result m Add a (pos (address_of m b)) (element_of m c)) m.data_registers
+add_address Vector a b c m = write (reg m a) (elements (kind_of m a) (λ k. result m Add a (pos (address_of m b)) (element_at m c k))) m.data_registers
 
 -- Div writes the quotient to dA, and then the remainder, cast, to dD.
 unfoldable pub divide : Form → ℕ → ℕ → ℕ → ℕ → Machine → Data
@@ -59,6 +59,7 @@ swiarg c n = get_or c.swiargs n zeros
 -- What an operation does to the data registers and memory.
 unfoldable pub data_after : Operation → Machine → Data
 data_after (Arithmetic op form a b c) m = arithmetic op form a b c m
+data_after (AddAddress form a b c) m = add_address form a b c m
 data_after (Div form a b c d) m = divide form a b c d m
 -- a reduction joins every element of dB's line, each cast to dA's type, into dA's element
 data_after (Reduce op a b) m = write_element (reg m a) (reduced op (kind_of m a) (kind_of m b) (bytes_of m b)) m.data_registers
@@ -74,7 +75,14 @@ data_after (CopyOut Swiarg0 a) m = write (reg m a) (swiarg m.control 0) m.data_r
 data_after (CopyOut Swiarg1 a) m = write (reg m a) (swiarg m.control 1) m.data_registers
 data_after (CopyOut Swiarg2 a) m = write (reg m a) (swiarg m.control 2) m.data_registers
 data_after (CopyOut Swiarg3 a) m = write (reg m a) (swiarg m.control 3) m.data_registers
-data_after op m = m.data_registers
+data_after (Fetch a b i j) m = m.data_registers
+data_after (JumpNotZero a b w) m = m.data_registers
+data_after (JumpZero a b w) m = m.data_registers
+data_after (Hand b w) m = m.data_registers
+data_after (CopyIn to a) m = m.data_registers
+data_after (Swi a b c d) m = m.data_registers
+data_after Reti m = m.data_registers
+data_after Retx m = m.data_registers
 
 -- Instruction register r goes to word w of the line that iB names.
 abbrev pub put_at : ℕ → ℕ → ℕ → Machine → (ℕ → Instruction) → ℕ → Instruction
@@ -88,7 +96,18 @@ instructions_after (Fetch a b i j) m after = over (λ so_far k. take (reg m (a +
 instructions_after (JumpNotZero a b w) m after = if is_taken m (JumpNotZero a b w) then put_at (ipc m) b w m after else after
 instructions_after (JumpZero a b w) m after = if is_taken m (JumpZero a b w) then put_at (ipc m) b w m after else after
 instructions_after (Hand b w) m after = put_at (of_mode User 63) b w m after
-instructions_after op m after = after
+instructions_after (Arithmetic op form a b c) m after = after
+instructions_after (AddAddress form a b c) m after = after
+instructions_after (Div form a b c d) m after = after
+instructions_after (Reduce op a b) m after = after
+instructions_after (Load kind a b i) m after = after
+instructions_after (Store kind a b i) m after = after
+instructions_after (Dup kind a b) m after = after
+instructions_after (CopyOut from a) m after = after
+instructions_after (CopyIn to a) m after = after
+instructions_after (Swi a b c d) m after = after
+instructions_after Reti m after = after
+instructions_after Retx m after = after
 
 -- What an operation does to the rest.
 unfoldable pub control_after : Operation → Machine → Control
@@ -104,7 +123,18 @@ control_after (Swi a b c d) m = record m.control { swiargs = bytes_of m a ∷ by
 -- reti sets ie and returns to user mode; retx only returns
 control_after Reti m = record m.control { ie = true; mode = User }
 control_after Retx m = record m.control { mode = User }
-control_after op m = m.control
+control_after (Arithmetic op form a b c) m = m.control
+control_after (AddAddress form a b c) m = m.control
+control_after (Div form a b c d) m = m.control
+control_after (Reduce op a b) m = m.control
+control_after (Load kind a b i) m = m.control
+control_after (Store kind a b i) m = m.control
+control_after (Dup kind a b) m = m.control
+control_after (Fetch a b i j) m = m.control
+control_after (JumpNotZero a b w) m = m.control
+control_after (JumpZero a b w) m = m.control
+control_after (Hand b w) m = m.control
+control_after (CopyOut from a) m = m.control
 
 -- ipc goes to the next word where the operation moves on.
 unfoldable pub moved_on : Operation → Machine → Machine
@@ -123,4 +153,17 @@ carried_out op m =
 unfoldable pub sent_by : Operation → Machine → Option ℕ
 sent_by (Load kind a b i) m = sent (reg m a) (target m b i) m.data_registers
 sent_by (Store kind a b i) m = sent (reg m a) (target m b i) m.data_registers
-sent_by op m = None
+sent_by (Arithmetic op form a b c) m = None
+sent_by (AddAddress form a b c) m = None
+sent_by (Div form a b c d) m = None
+sent_by (Reduce op a b) m = None
+sent_by (Dup kind a b) m = None
+sent_by (Fetch a b i j) m = None
+sent_by (JumpNotZero a b w) m = None
+sent_by (JumpZero a b w) m = None
+sent_by (Hand b w) m = None
+sent_by (CopyOut from a) m = None
+sent_by (CopyIn to a) m = None
+sent_by (Swi a b c d) m = None
+sent_by Reti m = None
+sent_by Retx m = None

@@ -1,15 +1,15 @@
 -- Which exception the machine enters instead of carrying out an operation: the first that applies, in the order of the rules.
-use Rattle.std.specs.Prelude.{ℕ, suc, ◌%◌, Bool, false, if◌then◌else◌, not, ◌&&◌, ◌||◌, List, [], ◌∷◌, Some, None, Option, ◌==◌, nat_lt, unsigned_abs}
+use Rattle.std.specs.Prelude.{ℕ, suc, ◌%◌, Bool, true, false, if◌then◌else◌, not, ◌&&◌, ◌||◌, List, [], ◌∷◌, Some, None, Option, ◌==◌, nat_lt, unsigned_abs}
 use Rattle.std.specs.List.{list_any}
 use Rattle.std.specs.Option.{option_or}
 use Rattle.word.specs.Types.{width}
 use Rattle.word.specs.declared.opcodes.Arith.{Arith}
-use Rattle.word.specs.declared.opcodes.Arith.TheVariants.{Slt, Mul, Shl, Shr, Rol, Ror, Addr}
+use Rattle.word.specs.declared.opcodes.Arith.TheVariants.{Add, Sub, Slt, Mul, And, Or, Xor, Shl, Shr, Rol, Ror}
 use Rattle.word.specs.declared.opcodes.Reduction.{Reduction}
-use Rattle.word.specs.declared.opcodes.Reduction.TheVariants.{Mul as Product, Max, Min}
+use Rattle.word.specs.declared.opcodes.Reduction.TheVariants.{Add as Sum, Mul as Product, Max, Min, And as Meet}
 use Rattle.word.specs.declared.opcodes.Form.TheVariants.{Scalar, Vector}
 use Rattle.word.specs.declared.operations.Operation.{Operation}
-use Rattle.word.specs.declared.operations.Operation.TheVariants.{Arith as Arithmetic, Div, Reduce, Load, Store, Dup, Fetch, JumpNotZero, JumpZero, Hand, CopyOut, CopyIn, Reti, Retx}
+use Rattle.word.specs.declared.operations.Operation.TheVariants.{Arith as Arithmetic, AddAddress, Div, Reduce, Load, Store, Dup, Fetch, JumpNotZero, JumpZero, Hand, CopyOut, CopyIn, Swi, Reti, Retx}
 use Rattle.line.specs.Dividing.{somewhere}
 use Rattle.line.specs.Elements.{count}
 use Rattle.scalar.specs.Arithmetic.{casts_to_zero}
@@ -21,61 +21,107 @@ use Rattle.flat.specs.Registers.{is_zero, line_of, named}
 use Rattle.flat.specs.declared.control.Mode.{Mode}
 use Rattle.flat.specs.declared.control.Mode.TheVariants.{User, Supervisor}
 use Rattle.flat.specs.declared.exception.Exception.{Exception}
+use Rattle.flat.specs.declared.rules.Divisor.{Divisor}
+use Rattle.flat.specs.declared.rules.Divisor.TheVariants.{Absent, Cast}
+use Rattle.flat.specs.declared.rules.Even.{Even}
+use Rattle.flat.specs.declared.rules.Even.TheVariants.{AnyWidths, Two as EvenTwo, Three as EvenThree, Four}
+use Rattle.flat.specs.declared.rules.Goes.{Goes}
+use Rattle.flat.specs.declared.rules.Goes.TheVariants.{On, OnIfZero, OnIfNotZero, Nowhere}
+use Rattle.flat.specs.declared.rules.Narrow.{Narrow}
+use Rattle.flat.specs.declared.rules.Narrow.TheVariants.{NoField, One, Two, OfArith, OfReduction}
+use Rattle.flat.specs.declared.rules.Needs.{Needs}
+use Rattle.flat.specs.declared.rules.Needs.TheVariants.{NoLine, Target, Fetched}
+use Rattle.flat.specs.declared.rules.Rules.{Rules}
+use Rattle.flat.specs.declared.rules.Writes.{Writes}
+use Rattle.flat.specs.declared.rules.Writes.TheVariants.{Nothing, Own, Both, There}
 use Rattle.flat.specs.declared.exception.Exception.TheVariants.{ZeroDivisor, Undefined, Wide, UserReti, UserRetx, UserCopyOut, UserCopyIn, NextLine, MissingLine, FixedLine}
 
--- Hand, reti, retx and cpy are the supervisor's. In user mode hand is undefined, and the others enter exceptions of their own.
+-- No rule but that ipc goes to the next word.
+abbrev pub plain : Rules
+plain = record { in_user_mode = None; not_wide = NoField; one_width = AnyWidths; needs = NoLine; writes = Nothing; divisor = Absent; goes = On }
+
+-- The row of each operation. Hand, reti, retx and cpy are the supervisor's: in user mode hand is undefined, and the others enter exceptions of their own.
+abbrev pub rules_of : Operation → Rules
+rules_of (Arithmetic op form a b c) = record plain { not_wide = OfArith op a b c; one_width = EvenThree form a b c; writes = Own a }
+rules_of (AddAddress form a b c) = record plain { not_wide = Two a c; one_width = EvenTwo form a c; writes = Own a }
+rules_of (Div form a b c d) = record plain { not_wide = One c; one_width = Four form a b c d; writes = Both a d; divisor = Cast form a c }
+rules_of (Reduce op a b) = record plain { not_wide = OfReduction op a; writes = Own a }
+rules_of (Load kind a b i) = record plain { needs = Target b i }
+rules_of (Store kind a b i) = record plain { needs = Target b i; writes = There a b i }
+rules_of (Dup kind a b) = record plain { writes = Own a }
+rules_of (Fetch a b i j) = record plain { needs = Fetched b i j }
+rules_of (JumpNotZero a b w) = record plain { goes = OnIfZero a }
+rules_of (JumpZero a b w) = record plain { goes = OnIfNotZero a }
+rules_of (Hand b w) = record plain { in_user_mode = Some Undefined }
+rules_of (CopyOut from a) = record plain { in_user_mode = Some (UserCopyOut from); writes = Own a }
+rules_of (CopyIn to a) = record plain { in_user_mode = Some (UserCopyIn to) }
+rules_of (Swi a b c d) = plain
+rules_of Reti = record plain { in_user_mode = Some UserReti; goes = Nowhere }
+rules_of Retx = record plain { in_user_mode = Some UserRetx; goes = Nowhere }
+
+-- In group 0, 64 bits are too wide for dA, dB and dC in slt, mul, shifts and rotates.
+abbrev pub narrow_arith : Arith → ℕ → ℕ → ℕ → List ℕ
+narrow_arith Add a b c = []
+narrow_arith Sub a b c = []
+narrow_arith Slt a b c = a ∷ b ∷ c ∷ []
+narrow_arith Mul a b c = a ∷ b ∷ c ∷ []
+narrow_arith And a b c = []
+narrow_arith Or a b c = []
+narrow_arith Xor a b c = []
+narrow_arith Shl a b c = a ∷ b ∷ c ∷ []
+narrow_arith Shr a b c = a ∷ b ∷ c ∷ []
+narrow_arith Rol a b c = a ∷ b ∷ c ∷ []
+narrow_arith Ror a b c = a ∷ b ∷ c ∷ []
+
+-- In reductions for dA in mul.r, max.r and min.r.
+abbrev pub narrow_reduction : Reduction → ℕ → List ℕ
+narrow_reduction Sum a = []
+narrow_reduction Product a = a ∷ []
+narrow_reduction Max a = a ∷ []
+narrow_reduction Min a = a ∷ []
+narrow_reduction Meet a = []
+
+-- The fields of the registers that must not be 64 bits wide.
+abbrev pub narrow_fields : Narrow → List ℕ
+narrow_fields NoField = []
+narrow_fields (One a) = a ∷ []
+narrow_fields (Two a c) = a ∷ c ∷ []
+narrow_fields (OfArith op a b c) = narrow_arith op a b c
+narrow_fields (OfReduction op a) = narrow_reduction op a
+
+-- The fields of the registers that must be of one width.
+abbrev pub even_fields : Even → List ℕ
+even_fields AnyWidths = []
+even_fields (EvenTwo Scalar a c) = []
+even_fields (EvenTwo Vector a c) = a ∷ c ∷ []
+even_fields (EvenThree Scalar a b c) = []
+even_fields (EvenThree Vector a b c) = a ∷ b ∷ c ∷ []
+even_fields (Four Scalar a b c d) = []
+even_fields (Four Vector a b c d) = a ∷ b ∷ c ∷ d ∷ []
+
+-- The exception in user mode of an operation that is the supervisor's.
 unfoldable pub reserved : Operation → Option Exception
-reserved (Hand b w) = Some Undefined
-reserved Reti = Some UserReti
-reserved Retx = Some UserRetx
-reserved (CopyOut from a) = Some (UserCopyOut from)
-reserved (CopyIn to a) = Some (UserCopyIn to)
-reserved op = None
+reserved op = (rules_of op).in_user_mode
 
 -- The exception of an operation that is the supervisor's, in user mode.
 abbrev pub forbidden : Mode → Operation → Option Exception
 forbidden User op = reserved op
 forbidden Supervisor op = None
 
--- The fields of the registers that must not be 64 bits wide: dA, dB and dC in slt, mul, shifts and rotates; dA and dC in addr; dC in div; dA in mul.r, max.r and min.r.
-abbrev pub narrow_arith : Arith → ℕ → ℕ → ℕ → List ℕ
-narrow_arith Slt a b c = a ∷ b ∷ c ∷ []
-narrow_arith Mul a b c = a ∷ b ∷ c ∷ []
-narrow_arith Shl a b c = a ∷ b ∷ c ∷ []
-narrow_arith Shr a b c = a ∷ b ∷ c ∷ []
-narrow_arith Rol a b c = a ∷ b ∷ c ∷ []
-narrow_arith Ror a b c = a ∷ b ∷ c ∷ []
-narrow_arith Addr a b c = a ∷ c ∷ []
-narrow_arith op a b c = []
-
--- Of reductions: dA in mul.r, max.r and min.r.
-abbrev pub narrow_reduction : Reduction → ℕ → List ℕ
-narrow_reduction Product a = a ∷ []
-narrow_reduction Max a = a ∷ []
-narrow_reduction Min a = a ∷ []
-narrow_reduction op a = []
-
--- Of every operation.
+-- The fields of the registers that must not be 64 bits wide.
 unfoldable pub narrow : Operation → List ℕ
-narrow (Arithmetic op form a b c) = narrow_arith op a b c
-narrow (Div form a b c d) = c ∷ []
-narrow (Reduce op a b) = narrow_reduction op a
-narrow op = []
+narrow op = narrow_fields (rules_of op).not_wide
 
--- One of them is 64 bits wide.
+-- One of the registers is 64 bits wide.
+abbrev pub some_wide : Machine → List ℕ → Bool
+some_wide m fields = list_any (λ field. width (kind_of m field) == 8) fields
+
 unfoldable pub too_wide : Machine → Operation → Bool
-too_wide m op = list_any (λ field. width (kind_of m field) == 8) (narrow op)
+too_wide m op = some_wide m (narrow op)
 
--- The fields of the registers that must be of one width in a vector form: dA, dB and dC, in div dD too, in addr without dB.
-abbrev pub even_arith : Arith → ℕ → ℕ → ℕ → List ℕ
-even_arith Addr a b c = a ∷ c ∷ []
-even_arith op a b c = a ∷ b ∷ c ∷ []
-
--- They matter in the vector form alone.
+-- The fields of the registers that must be of one width.
 unfoldable pub even : Operation → List ℕ
-even (Arithmetic op Vector a b c) = even_arith op a b c
-even (Div Vector a b c d) = a ∷ b ∷ c ∷ d ∷ []
-even op = []
+even op = even_fields (rules_of op).one_width
 
 -- Some of the registers has another width than the first.
 unfoldable pub uneven_widths : Machine → List ℕ → Bool
@@ -90,12 +136,14 @@ uneven m op = uneven_widths m (even op)
 abbrev pub is_missing : Machine → ℕ → Bool
 is_missing m address = not (nat_lt (line_of address) m.data_registers.backing.size)
 
--- Load, store or fetch of a missing line.
+-- One of the lines that must be there is missing.
+abbrev pub needs_missing : Machine → Needs → Bool
+needs_missing m NoLine = false
+needs_missing m (Target b i) = is_missing m (target m b i)
+needs_missing m (Fetched b i j) = somewhere (λ k. is_missing m (fetch_target m b i k)) (suc j)
+
 unfoldable pub missing : Machine → Operation → Bool
-missing m (Load kind a b i) = is_missing m (target m b i)
-missing m (Store kind a b i) = is_missing m (target m b i)
-missing m (Fetch a b i j) = somewhere (λ k. is_missing m (fetch_target m b i k)) (suc j)
-missing m op = false
+missing m op = needs_missing m (rules_of op).needs
 
 -- Register r, which is no zero register, writes a line that cannot be written.
 abbrev pub writes_fixed : Machine → ℕ → ℕ → Bool
@@ -105,33 +153,44 @@ writes_fixed m r n = not (is_zero r) && not (m.data_registers.backing.canwrite n
 abbrev pub own_fixed : Machine → ℕ → Bool
 own_fixed m field = writes_fixed m (reg m field) (line m.data_registers (reg m field))
 
--- Bytes written to an unwritable line: dA's, in div dD's too, in store the line that it goes to.
+-- One of the lines that get bytes cannot be written.
+abbrev pub some_fixed : Machine → Writes → Bool
+some_fixed m Nothing = false
+some_fixed m (Own a) = own_fixed m a
+some_fixed m (Both a d) = own_fixed m a || own_fixed m d
+some_fixed m (There a b i) = writes_fixed m (reg m a) (line_of (target m b i))
+
 unfoldable pub fixed : Machine → Operation → Bool
-fixed m (Arithmetic op form a b c) = own_fixed m a
-fixed m (Div form a b c d) = own_fixed m a || own_fixed m d
-fixed m (Reduce op a b) = own_fixed m a
-fixed m (Store kind a b i) = writes_fixed m (reg m a) (line_of (target m b i))
-fixed m (Dup kind a b) = own_fixed m a
-fixed m (CopyOut from a) = own_fixed m a
-fixed m op = false
+fixed m op = some_fixed m (rules_of op).writes
 
 -- A divisor that is zero after its cast to dA's type; in the vector form at some element place.
+abbrev pub is_zero_divisor : Machine → Divisor → Bool
+is_zero_divisor m Absent = false
+is_zero_divisor m (Cast Scalar a c) = casts_to_zero (kind_of m a) (element_of m c)
+is_zero_divisor m (Cast Vector a c) = somewhere (λ k. casts_to_zero (kind_of m a) (element_at m c k)) (count (kind_of m a))
+
 unfoldable pub by_zero : Machine → Operation → Bool
-by_zero m (Div Scalar a b c d) = casts_to_zero (kind_of m a) (element_of m c)
-by_zero m (Div Vector a b c d) = somewhere (λ k. casts_to_zero (kind_of m a) (element_at m c k)) (count (kind_of m a))
-by_zero m op = false
+by_zero m op = is_zero_divisor m (rules_of op).divisor
 
 -- A jump if not zero is taken when dA's element is not zero, a jump if zero when it is.
+unfoldable pub leaves : Machine → Goes → Bool
+leaves m On = false
+leaves m (OnIfZero a) = not (unsigned_abs (element_of m a) == 0)
+leaves m (OnIfNotZero a) = unsigned_abs (element_of m a) == 0
+leaves m Nowhere = false
+
 unfoldable pub is_taken : Machine → Operation → Bool
-is_taken m (JumpNotZero a b w) = not (unsigned_abs (element_of m a) == 0)
-is_taken m (JumpZero a b w) = unsigned_abs (element_of m a) == 0
-is_taken m op = false
+is_taken m op = leaves m (rules_of op).goes
 
 -- ipc goes to the next word after every operation but a taken jump, reti and retx.
+abbrev pub goes_on : Machine → Goes → Bool
+goes_on m On = true
+goes_on m (OnIfZero a) = not (leaves m (OnIfZero a))
+goes_on m (OnIfNotZero a) = not (leaves m (OnIfNotZero a))
+goes_on m Nowhere = false
+
 unfoldable pub moves_on : Machine → Operation → Bool
-moves_on m Reti = false
-moves_on m Retx = false
-moves_on m op = not (is_taken m op)
+moves_on m op = goes_on m (rules_of op).goes
 
 -- ipc would pass word 31, and no instruction register names the next line.
 unfoldable pub no_next_line : Machine → Operation → Bool

@@ -2,7 +2,7 @@
 use Rattle.std.specs.Prelude.{ℕ, Bool, true, false, if◌then◌else◌, ◌&&◌, Some, None, Option}
 use Rattle.reading.specs.Reading.{operation}
 use Rattle.word.specs.declared.operations.Operation.{Operation}
-use Rattle.word.specs.declared.operations.Operation.TheVariants.{Swi}
+use Rattle.word.specs.declared.operations.Operation.TheVariants.{Arith as Arithmetic, AddAddress, Div, Reduce, Load, Store, Dup, Fetch, JumpNotZero, JumpZero, Hand, CopyOut, CopyIn, Swi, Reti, Retx}
 use Rattle.flat.specs.Machine.{Machine, word, entered}
 use Rattle.flat.specs.Operations.{carried_out, sent_by}
 use Rattle.flat.specs.Raising.{raised}
@@ -23,10 +23,28 @@ pub record AfterStep : Type 0 where
 abbrev pub enters : Exception → Machine → AfterStep
 enters x m = record { machine = entered x m; answer = Entered x; sent = None }
 
+-- An operation is carried out, and nothing more.
+abbrev pub done : Operation → Machine → AfterStep
+done op m = record { machine = carried_out op m; answer = Done; sent = sent_by op m }
+
 -- An operation that raises no exception is carried out; swi then enters its exception.
 unfoldable pub does : Operation → Machine → AfterStep
 does (Swi a b c d) m = enters Software (carried_out (Swi a b c d) m)
-does op m = record { machine = carried_out op m; answer = Done; sent = sent_by op m }
+does (Arithmetic op form a b c) m = done (Arithmetic op form a b c) m
+does (AddAddress form a b c) m = done (AddAddress form a b c) m
+does (Div form a b c d) m = done (Div form a b c d) m
+does (Reduce op a b) m = done (Reduce op a b) m
+does (Load kind a b i) m = done (Load kind a b i) m
+does (Store kind a b i) m = done (Store kind a b i) m
+does (Dup kind a b) m = done (Dup kind a b) m
+does (Fetch a b i j) m = done (Fetch a b i j) m
+does (JumpNotZero a b w) m = done (JumpNotZero a b w) m
+does (JumpZero a b w) m = done (JumpZero a b w) m
+does (Hand b w) m = done (Hand b w) m
+does (CopyOut from a) m = done (CopyOut from a) m
+does (CopyIn to a) m = done (CopyIn to a) m
+does Reti m = done Reti m
+does Retx m = done Retx m
 
 -- The first exception that applies, or the operation.
 unfoldable pub obeyed_unless : Option Exception → Operation → Machine → AfterStep

@@ -8,10 +8,12 @@ mod control;
 mod exception;
 mod records;
 mod registers;
+mod rules;
 mod shown;
 
 pub use control::{Control, Mode};
 pub use exception::{Exception, Stepped};
 pub use records::{Ran, StepRecord};
 pub use registers::DataRegister;
+pub use rules::{Divisor, Even, Goes, Narrow, Needs, Rules, Writes};
 pub use shown::{ShownData, ShownInstruction};

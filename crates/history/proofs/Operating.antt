@@ -5,11 +5,11 @@ use Rattle.store.specs.Meaning.{Meaning}
 use Rattle.word.specs.declared.opcodes.Form.TheVariants.{Scalar, Vector}
 use Rattle.word.specs.declared.opcodes.Special.TheVariants.{Ie, Xct, Swiarg0, Swiarg1, Swiarg2, Swiarg3}
 use Rattle.word.specs.declared.operations.Operation.{Operation}
-use Rattle.word.specs.declared.operations.Operation.TheVariants.{Arith as Arithmetic, Div, Reduce, Load, Store, Dup, CopyOut}
+use Rattle.word.specs.declared.operations.Operation.TheVariants.{Arith as Arithmetic, AddAddress, Div, Reduce, Load, Store, Dup, CopyOut}
 use Rattle.flat.specs.Data.{Data, line}
 use Rattle.flat.specs.Machine.{Machine}
 use Rattle.flat.specs.Operands.{reg, target}
-use Rattle.flat.specs.Operations.{arithmetic, divide, data_after}
+use Rattle.flat.specs.Operations.{arithmetic, add_address, divide, data_after}
 use Rattle.flat.specs.Raising.{first, fixed, own_fixed, writes_fixed, raised}
 use Rattle.flat.specs.Registers.{is_zero, line_of, of_mode}
 use Rattle.flat.specs.declared.control.Mode.{Mode}
@@ -70,9 +70,11 @@ module _ (m : Machine) (c : Coherent m.data_registers) where
   own a h real = can_write m (reg m a) (line d (reg m a)) h real
 
   operates : (op : Operation) → fixed m op ≡ false → Goes d (data_after op m)
-  unfolding data_after fixed arithmetic divide
+  unfolding data_after fixed arithmetic add_address divide
   operates (Arithmetic op Scalar x y z) h = keeps_goes _ _ (element_keeps (reg m x) _ d (own x h) c)
   operates (Arithmetic op Vector x y z) h = keeps_goes _ _ (write_keeps (reg m x) _ d (own x h) c)
+  operates (AddAddress Scalar x y z) h = keeps_goes _ _ (element_keeps (reg m x) _ d (own x h) c)
+  operates (AddAddress Vector x y z) h = keeps_goes _ _ (write_keeps (reg m x) _ d (own x h) c)
   operates (Div Scalar x y z w) h =
       let e = either (own_fixed m x) (own_fixed m w) h in
       let k = element_keeps (reg m x) _ d (own x e.0) c in

@@ -6,7 +6,7 @@ use Rattle.line.specs.Elements.{bytes, count, element}
 use Rattle.scalar.specs.Arithmetic.{computed}
 use Rattle.scalar.specs.Casts.{residue}
 use Rattle.word.specs.declared.opcodes.Arith.{Arith}
-use Rattle.word.specs.declared.opcodes.Arith.TheVariants.{Addr}
+use Rattle.word.specs.declared.opcodes.Arith.TheVariants.{Add}
 
 -- n elements of w bytes in a row, the number f k, cast, at place k.
 unfoldable pub row : ℕ → (ℕ → ℤ) → ℕ → List ℕ
@@ -26,6 +26,6 @@ filled t z = line_of t (λ k. z)
 abbrev pub vector : Arith → ElementType → List ℕ → List ℕ → List ℕ
 vector op t x y = line_of t (λ k. computed op t (element t x k) (element t y k))
 
--- Addr adds one address to every element.
+-- Addr is add with one address in the place of x: it adds it to every element.
 abbrev pub vector_addr : ElementType → ℕ → List ℕ → List ℕ
-vector_addr t address y = line_of t (λ k. computed Addr t (pos address) (element t y k))
+vector_addr t address y = line_of t (λ k. computed Add t (pos address) (element t y k))

@@ -33,14 +33,14 @@ pub fn apply<O: Operation>(kind: ElementType, x: &[u8; 128], y: &[u8; 128], out:
     by_kind!(kind, apply_as::<O>; x, y, out)
 }
 
-// The vector form of an operation of two operands. For addr, x holds the address at every element.
+// The vector form of an operation of two operands.
 // (It matches as `scalar::compute` does: one function for both would take a trait with a generic
 // method, and a struct of operands for each.)
 pub fn vector(op: Arith, kind: ElementType, x: &[u8; 128], y: &[u8; 128], out: &mut [u8; 128])
     ensures { out.new ≡ vectorOf op kind x.now y.now }
 {
     match op {
-        Arith::Add | Arith::Addr => apply::<Add>(kind, x, y, out),
+        Arith::Add => apply::<Add>(kind, x, y, out),
         Arith::Sub => apply::<Sub>(kind, x, y, out),
         Arith::Slt => apply::<Slt>(kind, x, y, out),
         Arith::Mul => apply::<Mul>(kind, x, y, out),

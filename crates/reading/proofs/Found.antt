@@ -14,7 +14,7 @@ use Rattle.word.specs.declared.opcodes.Form.TheVariants.{Scalar}
 use Rattle.word.specs.declared.opcodes.Reduction.{Reduction}
 use Rattle.word.specs.declared.opcodes.Special.{Special}
 use Rattle.word.specs.declared.operations.Operation.{Operation}
-use Rattle.word.specs.declared.operations.Operation.TheVariants.{Arith as Arithmetic, Div, Reduce, Load, Store, Dup, Fetch, JumpNotZero, JumpZero, Hand, CopyOut, CopyIn, Swi, Reti, Retx}
+use Rattle.word.specs.declared.operations.Operation.TheVariants.{Arith as Arithmetic, AddAddress, Div, Reduce, Load, Store, Dup, Fetch, JumpNotZero, JumpZero, Hand, CopyOut, CopyIn, Swi, Reti, Retx}
 use Rattle.reading.specs.Reading.{types, ariths, reductions, specials, forms, from_twos, a, b, c, i, o, z, arithmetic, reduce, dup, fetch, jump, jumps, system, undefined, groups, operation}
 use Rattle.reading.proofs.Numbered.{type_found, arith_found, reduction_found, special_found, form_found, twos_from}
 use Rattle.reading.proofs.Places.{has_made}
@@ -64,8 +64,14 @@ module _ (w : ℕ) where
       let n = arith_found (o w) op e in
       has_made w (plain 0 4) (row (Arithmetic op form (a w) (b w) (c w))) (search rules) (search rules) g
 
+  addr_codes : w / 2 ^ 28 ≡ 0 → extract w 5 5 ≡ 0 → o w ≡ 11 → Codes (AddAddress (get_or forms (extract w 4 1) Scalar) (a w) (b w) (c w)) w
+  addr_codes g none e =
+      let form = get_or forms (extract w 4 1) Scalar in
+      let v = form_found (extract w 4 1) (omega arith) in
+      has_made w (plain 0 4) (row (AddAddress form (a w) (b w) (c w))) (search rules) (search rules) g
+
   arithmetic_found : w / 2 ^ 28 ≡ 0 → Found w (arithmetic w)
-  arithmetic_found g = found_if w _ _ _ (λ e. div_codes g (eqb-true _ _ e)) (λ e. found_when w _ _ (λ e. found_map w _ _ (arith_codes g (eqb-true _ _ e))))
+  arithmetic_found g = found_if w _ _ _ (λ e. div_codes g (eqb-true _ _ e)) (λ e. found_when w _ _ (λ none. found_if w _ _ _ (λ e. addr_codes g (eqb-true _ _ none) (eqb-true _ _ e)) (λ e. found_map w _ _ (arith_codes g (eqb-true _ _ none)))))
 
   reduce_codes : w / 2 ^ 28 ≡ 1 → z w ≡ 0 → (op : Reduction) → slice_get reductions (o w) ≡ Some op → Codes (Reduce op (a w) (b w)) w
   reduce_codes g none op e = let n = reduction_found (o w) op e in has_made w (plain 1 4) (row (Reduce op (a w) (b w))) (search rules) (search rules) g

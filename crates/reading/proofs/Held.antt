@@ -10,7 +10,7 @@ use Rattle.word.specs.declared.opcodes.Arith.{Arith}
 use Rattle.word.specs.declared.opcodes.Form.{Form}
 use Rattle.word.specs.declared.opcodes.Special.{Special}
 use Rattle.word.specs.declared.operations.Operation.{Operation}
-use Rattle.word.specs.declared.operations.Operation.TheVariants.{Arith as Arithmetic, Div, Reduce, Load, Store, Dup, Fetch, JumpNotZero, JumpZero, Hand, CopyOut, CopyIn, Swi, Reti, Retx}
+use Rattle.word.specs.declared.operations.Operation.TheVariants.{Arith as Arithmetic, AddAddress, Div, Reduce, Load, Store, Dup, Fetch, JumpNotZero, JumpZero, Hand, CopyOut, CopyIn, Swi, Reti, Retx}
 use Rattle.reading.specs.Reading.{operation}
 use Rattle.reading.proofs.Numbered.{type_listed, arith_listed, reduction_listed, special_listed, form_listed, from_twos_of}
 use Rattle.reading.proofs.Places.{made_has}
@@ -19,6 +19,13 @@ use Rattle.reading.proofs.Rows.{row}
 -- no arithmetic has the opcode of div
 not_div : (op : Arith) (form : Form) → (arith_number op == 14 + form_number form) ≡ false
 not_div op form = grind arith
+
+-- nor that of addr, which is not that of div
+not_addr : (op : Arith) → (arith_number op == 11) ≡ false
+not_addr op = grind arith
+
+addr_not_div : (form : Form) → (11 == 14 + form_number form) ≡ false
+addr_not_div form = grind arith
 
 is_div : (form : Form) → (14 + form_number form == 14 + form_number form) ≡ true
 is_div form = grind arith
@@ -33,7 +40,10 @@ pub operation_held : (w : ℕ) (op : Operation) → Codes op w → operation w �
 unfolding operation
 operation_held w (Arithmetic op form a b c) h =
     let e = made_has w (plain 0 4) (row (Arithmetic op form a b c)) refl h in
-    rw (e.1, e.0.0, e.0.1.0, e.0.1.1.0, e.0.1.1.1.0, e.0.1.1.1.1.0, e.0.1.1.1.1.1.0, form_listed form, not_div op form, arith_listed op) refl
+    rw (e.1, e.0.0, e.0.1.0, e.0.1.1.0, e.0.1.1.1.0, e.0.1.1.1.1.0, e.0.1.1.1.1.1.0, form_listed form, not_div op form, not_addr op, arith_listed op) refl
+operation_held w (AddAddress form a b c) h =
+    let e = made_has w (plain 0 4) (row (AddAddress form a b c)) refl h in
+    rw (e.1, e.0.0, e.0.1.0, e.0.1.1.0, e.0.1.1.1.0, e.0.1.1.1.1.0, e.0.1.1.1.1.1.0, form_listed form, addr_not_div form) refl
 operation_held w (Div form a b c d) h =
     let e = made_has w (plain 0 4) (row (Div form a b c d)) refl h in
     rw (e.1, e.0.0, e.0.1.0, e.0.1.1.0, e.0.1.1.1.0, e.0.1.1.1.1.0, e.0.1.1.1.1.1.0, form_listed form, is_div form) refl

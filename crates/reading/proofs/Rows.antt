@@ -4,10 +4,11 @@ use Rattle.word.specs.Fields.{Field}
 use Rattle.word.specs.Fields.Field.{plain, nonzero, signed}
 use Rattle.word.specs.Numbers.{type_number, arith_number, reduction_number, special_number, form_number}
 use Rattle.word.specs.declared.operations.Operation.{Operation}
-use Rattle.word.specs.declared.operations.Operation.TheVariants.{Arith as Arithmetic, Div, Reduce, Load, Store, Dup, Fetch, JumpNotZero, JumpZero, Hand, CopyOut, CopyIn, Swi, Reti, Retx}
+use Rattle.word.specs.declared.operations.Operation.TheVariants.{Arith as Arithmetic, AddAddress, Div, Reduce, Load, Store, Dup, Fetch, JumpNotZero, JumpZero, Hand, CopyOut, CopyIn, Swi, Reti, Retx}
 
 abbrev pub row : Operation → List Field
 row (Arithmetic op form a b c) = plain a 6 ∷ plain b 6 ∷ plain c 6 ∷ plain 0 5 ∷ plain (form_number form) 1 ∷ plain (arith_number op) 4 ∷ []
+row (AddAddress form a b c) = plain a 6 ∷ plain b 6 ∷ plain c 6 ∷ plain 0 5 ∷ plain (form_number form) 1 ∷ plain 11 4 ∷ []
 row (Div form a b c d) = plain a 6 ∷ plain b 6 ∷ plain c 6 ∷ plain d 5 ∷ plain (form_number form) 1 ∷ plain (14 + form_number form) 4 ∷ []
 row (Reduce op a b) = plain a 6 ∷ plain b 6 ∷ plain 0 12 ∷ plain (reduction_number op) 4 ∷ []
 row (Load kind a b i) = plain a 6 ∷ plain b 6 ∷ signed i 12 ∷ plain (type_number kind) 4 ∷ []

@@ -4,7 +4,7 @@ use Rattle.word.specs.Fields.{extract}
 use Rattle.word.specs.declared.element.ElementType.{ElementType}
 use Rattle.word.specs.declared.element.ElementType.TheVariants.{U8, S8, U16, S16, U32, S32, U64, S64}
 use Rattle.word.specs.declared.opcodes.Arith.{Arith}
-use Rattle.word.specs.declared.opcodes.Arith.TheVariants.{Add, Sub, Slt, Mul, And, Or, Xor, Shl, Shr, Rol, Ror, Addr}
+use Rattle.word.specs.declared.opcodes.Arith.TheVariants.{Add, Sub, Slt, Mul, And, Or, Xor, Shl, Shr, Rol, Ror}
 use Rattle.word.specs.declared.opcodes.Reduction.{Reduction}
 use Rattle.word.specs.declared.opcodes.Reduction.TheVariants.{Add as Sum, Mul as Product, Max, Min, And as Meet}
 use Rattle.word.specs.declared.opcodes.Special.{Special}
@@ -12,7 +12,7 @@ use Rattle.word.specs.declared.opcodes.Special.TheVariants.{Ie, Xct, Swiarg0, Sw
 use Rattle.word.specs.declared.opcodes.Form.{Form}
 use Rattle.word.specs.declared.opcodes.Form.TheVariants.{Scalar, Vector}
 use Rattle.word.specs.declared.operations.Operation.{Operation}
-use Rattle.word.specs.declared.operations.Operation.TheVariants.{Arith as Arithmetic, Div, Reduce, Load, Store, Dup, Fetch, JumpNotZero, JumpZero, Hand, CopyOut, CopyIn, Swi, Reti, Retx}
+use Rattle.word.specs.declared.operations.Operation.TheVariants.{Arith as Arithmetic, AddAddress, Div, Reduce, Load, Store, Dup, Fetch, JumpNotZero, JumpZero, Hand, CopyOut, CopyIn, Swi, Reti, Retx}
 
 -- The types of elements, in the order of their numbers.
 abbrev pub types : List ElementType
@@ -20,7 +20,7 @@ types = U8 ∷ S8 ∷ U16 ∷ S16 ∷ U32 ∷ S32 ∷ U64 ∷ S64 ∷ []
 
 -- The operations on two operands, in the order of their numbers.
 abbrev pub ariths : List Arith
-ariths = Add ∷ Sub ∷ Slt ∷ Mul ∷ And ∷ Or ∷ Xor ∷ Shl ∷ Shr ∷ Rol ∷ Ror ∷ Addr ∷ []
+ariths = Add ∷ Sub ∷ Slt ∷ Mul ∷ And ∷ Or ∷ Xor ∷ Shl ∷ Shr ∷ Rol ∷ Ror ∷ []
 
 -- The reductions, in the order of their numbers.
 abbrev pub reductions : List Reduction
@@ -69,7 +69,7 @@ module _ (w : ℕ) where
       let v = extract w 4 1 in
       let form = get_or forms v Scalar in
       if o == 14 + v then Some (Div form a b c d)
-      else if d == 0 then option_map (λ op. Arithmetic op form a b c) (slice_get ariths o)
+      else if d == 0 then if o == 11 then Some (AddAddress form a b c) else option_map (λ op. Arithmetic op form a b c) (slice_get ariths o)
       else None
 
   -- Group 1, a6 b6 z12 o4.

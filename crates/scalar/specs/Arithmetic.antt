@@ -7,7 +7,7 @@ use Rattle.word.specs.declared.element.ElementType.{ElementType}
 use Rattle.scalar.specs.Casts.{residue, cast}
 use Rattle.scalar.specs.declared.dividing.Division.{Division}
 use Rattle.word.specs.declared.opcodes.Arith.{Arith}
-use Rattle.word.specs.declared.opcodes.Arith.TheVariants.{Add, Sub, Slt, Mul, And, Or, Xor, Shl, Shr, Rol, Ror, Addr}
+use Rattle.word.specs.declared.opcodes.Arith.TheVariants.{Add, Sub, Slt, Mul, And, Or, Xor, Shl, Shr, Rol, Ror}
 
 -- Just one of two things holds.
 abbrev pub differ : Bool → Bool → Bool
@@ -35,7 +35,7 @@ abbrev pub rotate : ℕ → ℕ → ℕ → ℕ
 rotate n m c = (m * 2 ^ c) % 2 ^ n + m / 2 ^ (n - c)
 
 -- What an operation makes of x and y, which are numbers of n bits. Shift and rotate counts are y
--- as unsigned; rotates take the count mod n. Addr adds x, which is an address, to y.
+-- as unsigned; rotates take the count mod n.
 abbrev pub compute : Arith → ℕ → ℤ → ℤ → ℤ
 compute Add n x y = x +ℤ y
 compute Sub n x y = x -ℤ y
@@ -48,7 +48,6 @@ compute Shl n x y = shift_left n x (residue n y)
 compute Shr n x y = shift_right n x (residue n y)
 compute Rol n x y = pos (rotate n (residue n x) (residue n y % n))
 compute Ror n x y = pos (rotate n (residue n x) (n - residue n y % n))
-compute Addr n x y = x +ℤ y
 
 -- Both operands are cast to the type, and so is what is made of them.
 abbrev pub applied : (ℕ → ℤ → ℤ → ℤ) → ElementType → ℤ → ℤ → ℤ

@@ -16,13 +16,13 @@ fn apply<O: Operation>(kind: ElementType, x: i128, y: i128) -> u64
     O::apply(kind, low_bits(x), low_bits(y))
 }
 
-// The lane of what an operation of two operands gives at a type. For addr, x is the address. (The
+// The lane of what an operation of two operands gives at a type. (The
 // operation is picked here once, by a match, so that no value that stands for it is called below.)
 pub fn compute_lane(op: Arith, kind: ElementType, x: i128, y: i128) -> u64
     ensures { cast kind (pos result) ≡ computed op kind x y }
 {
     match op {
-        Arith::Add | Arith::Addr => apply::<Add>(kind, x, y),
+        Arith::Add => apply::<Add>(kind, x, y),
         Arith::Sub => apply::<Sub>(kind, x, y),
         Arith::Slt => apply::<Slt>(kind, x, y),
         Arith::Mul => apply::<Mul>(kind, x, y),

@@ -3,13 +3,15 @@ use Rattle.std.specs.Prelude.{ℕ, ◌+◌, ◌*◌, ◌≤◌, [], ◌∷◌}
 use Rattle.word.specs.Fields.{plain, nonzero, signed, Made}
 use Rattle.word.specs.Numbers.{type_number, arith_number, reduction_number, special_number, form_number}
 use Rattle.word.specs.declared.operations.Operation.{Operation}
-use Rattle.word.specs.declared.operations.Operation.TheVariants.{Arith, Div, Reduce, Load, Store, Dup, Fetch, JumpNotZero, JumpZero, Hand, CopyOut, CopyIn, Swi, Reti, Retx}
+use Rattle.word.specs.declared.operations.Operation.TheVariants.{Arith, AddAddress, Div, Reduce, Load, Store, Dup, Fetch, JumpNotZero, JumpZero, Hand, CopyOut, CopyIn, Swi, Reti, Retx}
 
 -- The word w holds the operation. Each row gives the fields from bit 31 down, the group of 4 bits
 -- first and the opcode last, with a zero in each unused field. No other word holds the operation,
 -- and a word that holds none is undefined.
 abbrev pub Codes : Operation → ℕ → Type 0
 Codes (Arith op form a b c) word = Made (plain 0 4 ∷ plain a 6 ∷ plain b 6 ∷ plain c 6 ∷ plain 0 5 ∷ plain (form_number form) 1 ∷ plain (arith_number op) 4 ∷ []) word
+-- addr is opcode 11
+Codes (AddAddress form a b c) word = Made (plain 0 4 ∷ plain a 6 ∷ plain b 6 ∷ plain c 6 ∷ plain 0 5 ∷ plain (form_number form) 1 ∷ plain 11 4 ∷ []) word
 -- div.s is opcode 14 and has v = 0, div.v is opcode 15 and has v = 1
 Codes (Div form a b c d) word = Made (plain 0 4 ∷ plain a 6 ∷ plain b 6 ∷ plain c 6 ∷ plain d 5 ∷ plain (form_number form) 1 ∷ plain (14 + form_number form) 4 ∷ []) word
 Codes (Reduce op a b) word = Made (plain 1 4 ∷ plain a 6 ∷ plain b 6 ∷ plain 0 12 ∷ plain (reduction_number op) 4 ∷ []) word

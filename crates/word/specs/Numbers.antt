@@ -4,7 +4,7 @@ use Rattle.word.specs.declared.element.ElementType.{ElementType}
 use Rattle.word.specs.declared.element.ElementType.TheVariants.{U8, S8, U16, S16, U32, S32, U64, S64}
 use Rattle.word.specs.declared.numbers.UnknownNumber.{UnknownNumber}
 use Rattle.word.specs.declared.opcodes.Arith.{Arith}
-use Rattle.word.specs.declared.opcodes.Arith.TheVariants.{Add, Sub, Slt, Mul, And, Or, Xor, Shl, Shr, Rol, Ror, Addr}
+use Rattle.word.specs.declared.opcodes.Arith.TheVariants.{Add, Sub, Slt, Mul, And, Or, Xor, Shl, Shr, Rol, Ror}
 use Rattle.word.specs.declared.opcodes.Reduction.{Reduction}
 use Rattle.word.specs.declared.opcodes.Reduction.TheVariants.{Add as Sum, Mul as Product, Max, Min, And as Meet}
 use Rattle.word.specs.declared.opcodes.Special.{Special}
@@ -36,7 +36,6 @@ arith_number Shl = 7
 arith_number Shr = 8
 arith_number Rol = 9
 arith_number Ror = 10
-arith_number Addr = 11
 
 -- The reductions: add.r, mul.r, max.r, min.r and and.r.
 abbrev pub reduction_number : Reduction → ℕ

@@ -5,7 +5,7 @@ use Rattle.word.specs.declared.element.ElementType.{ElementType}
 use Rattle.word.specs.declared.element.ElementType.TheVariants.{U8, S8, U16, S16, U32, S32, U64, S64}
 use Rattle.word.specs.declared.numbers.UnknownNumber.{UnknownNumber}
 use Rattle.word.specs.declared.opcodes.Arith.{Arith}
-use Rattle.word.specs.declared.opcodes.Arith.TheVariants.{Add, Sub, Slt, Mul, And, Or, Xor, Shl, Shr, Rol, Ror, Addr}
+use Rattle.word.specs.declared.opcodes.Arith.TheVariants.{Add, Sub, Slt, Mul, And, Or, Xor, Shl, Shr, Rol, Ror}
 use Rattle.word.specs.declared.opcodes.Reduction.{Reduction}
 use Rattle.word.specs.declared.opcodes.Reduction.TheVariants.{Add as Sum, Mul as Product, Max, Min, And as Meet}
 use Rattle.word.specs.declared.opcodes.Special.{Special}
@@ -13,7 +13,7 @@ use Rattle.word.specs.declared.opcodes.Special.TheVariants.{Ie, Xct, Swiarg0, Sw
 use Rattle.word.specs.declared.opcodes.Form.{Form}
 use Rattle.word.specs.declared.opcodes.Form.TheVariants.{Scalar, Vector}
 use Rattle.word.specs.declared.operations.Operation.{Operation}
-use Rattle.word.specs.declared.operations.Operation.TheVariants.{Arith as Arithmetic, Div, Reduce, Load, Store, Dup, Fetch, JumpNotZero, JumpZero, Hand, CopyOut, CopyIn, Swi, Reti, Retx}
+use Rattle.word.specs.declared.operations.Operation.TheVariants.{Arith as Arithmetic, AddAddress, Div, Reduce, Load, Store, Dup, Fetch, JumpNotZero, JumpZero, Hand, CopyOut, CopyIn, Swi, Reti, Retx}
 
 -- The types of elements.
 abbrev pub element_text : ElementType → List ℕ
@@ -39,7 +39,6 @@ arith_text Shl = codes "shl"
 arith_text Shr = codes "shr"
 arith_text Rol = codes "rol"
 arith_text Ror = codes "ror"
-arith_text Addr = codes "addr"
 
 -- The reductions.
 abbrev pub reduction_text : Reduction → List ℕ
@@ -71,6 +70,7 @@ unknown_text e = codes "nothing has the number " ++ decimal e.0
 -- a copy, and then each field behind its own letter.
 abbrev pub operation_text : Operation → List ℕ
 operation_text (Arithmetic op form a b c) = arith_text op ++ codes "." ++ form_text form ++ codes " a " ++ decimal a ++ codes " b " ++ decimal b ++ codes " c " ++ decimal c
+operation_text (AddAddress form a b c) = codes "addr." ++ form_text form ++ codes " a " ++ decimal a ++ codes " b " ++ decimal b ++ codes " c " ++ decimal c
 operation_text (Div form a b c d) = codes "div." ++ form_text form ++ codes " a " ++ decimal a ++ codes " b " ++ decimal b ++ codes " c " ++ decimal c ++ codes " d " ++ decimal d
 operation_text (Reduce op a b) = reduction_text op ++ codes ".r a " ++ decimal a ++ codes " b " ++ decimal b
 operation_text (Load kind a b i) = codes "load." ++ element_text kind ++ codes " a " ++ decimal a ++ codes " b " ++ decimal b ++ codes " i " ++ signed_decimal i

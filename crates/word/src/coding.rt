@@ -69,6 +69,7 @@ pub fn code(op: Operation) -> Result<u32, Refusal>
 {
     match op {
         Operation::Arith { op, form, a, b, c } => arithmetic(a, b, c, 0, form, op.into()),
+        Operation::AddAddress { form, a, b, c } => arithmetic(a, b, c, 0, form, ADD_ADDRESS),
         Operation::Div { form, a, b, c, d } => arithmetic(a, b, c, d, form, DIV + u8::from(form)),
         Operation::Reduce { op, a, b } => pair(REDUCE, a, b, op.into()),
         Operation::Load { kind, a, b, i } => transfer(LOAD, a, b, i, kind.into()),

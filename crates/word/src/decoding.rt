@@ -16,7 +16,8 @@ fn arithmetic(word: u32) -> Option<Operation>
     let (a, b, c, d) = (A.read(word), B.read(word), C.read(word), SHORT_D.read(word));
     let form = V.named(word)?;
     match OPCODE.read(word) {
-        0..=11 if d == 0 => {
+        ADD_ADDRESS if d == 0 => Some(Operation::AddAddress { form, a, b, c }),
+        0..=10 if d == 0 => {
             let op = OPCODE.named(word)?;
             Some(Operation::Arith { op, form, a, b, c })
         }

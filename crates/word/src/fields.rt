@@ -27,6 +27,8 @@ pub(crate) const SYSTEM: u8 = 8;
 // The opcodes that no enum numbers: of group 0, where div.v is one more than div.s, of group 6 and of
 // group 8. Each stands in one arm of reading and one of writing, so that an enum of them would only add a
 // second match.
+pub(crate) const ADD_ADDRESS: u8 = 11;
+
 pub(crate) const DIV: u8 = 14;
 
 pub(crate) const JUMP_NOT_ZERO: u8 = 0;

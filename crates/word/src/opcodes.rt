@@ -21,7 +21,6 @@ pub enum Arith {
     Shr = 8,
     Rol = 9,
     Ror = 10,
-    Addr = 11,
 }
 
 impl From<Arith> for u8 {
@@ -50,7 +49,6 @@ impl TryFrom<u8> for Arith {
             8 => Ok(Arith::Shr),
             9 => Ok(Arith::Rol),
             10 => Ok(Arith::Ror),
-            11 => Ok(Arith::Addr),
             _ => Err(UnknownNumber(number)),
         }
     }

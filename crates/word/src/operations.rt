@@ -13,6 +13,13 @@ pub enum Operation {
         b: u8,
         c: u8,
     },
+    // add with dB's address in the place of its element
+    AddAddress {
+        form: Form,
+        a: u8,
+        b: u8,
+        c: u8,
+    },
     Div {
         form: Form,
         a: u8,

@@ -40,7 +40,6 @@ impl fmt::Display for Arith {
             Arith::Shr => "shr",
             Arith::Rol => "rol",
             Arith::Ror => "ror",
-            Arith::Addr => "addr",
         })
     }
 }
@@ -92,6 +91,7 @@ impl fmt::Display for Operation {
     fn fmt<W: fmt::Write>(&self, f: &mut fmt::Formatter<W>) -> fmt::Result {
         match self {
             Operation::Arith { op, form, a, b, c } => write!(f, "{op}.{form} a {a} b {b} c {c}"),
+            Operation::AddAddress { form, a, b, c } => write!(f, "addr.{form} a {a} b {b} c {c}"),
             Operation::Div { form, a, b, c, d } => write!(f, "div.{form} a {a} b {b} c {c} d {d}"),
             Operation::Reduce { op, a, b } => write!(f, "{op}.r a {a} b {b}"),
             Operation::Load { kind, a, b, i } => write!(f, "load.{kind} a {a} b {b} i {i}"),

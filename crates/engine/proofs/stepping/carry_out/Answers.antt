@@ -8,7 +8,7 @@ use Rattle.flat.specs.Raising.{is_taken, uneven}
 use Rattle.word.specs.declared.operations.Operation.{Operation}
 use Rattle.word.specs.declared.operations.Operation.TheVariants.{Load, Store}
 use Rattle.file.specs.Machine.{stands}
-use Rattle.engine.proofs.Carried.{arith_carried, div_carried, reduce_carried, load_carried, store_carried, dup_carried, copy_out_carried, copy_in_carried, swi_carried, reti_carried, retx_carried, jump_taken, jump_on, jump_sends, sent_moved, uneven_moved, uneven_on_any}
+use Rattle.engine.proofs.Carried.{arith_carried, address_carried, div_carried, reduce_carried, load_carried, store_carried, dup_carried, copy_out_carried, copy_in_carried, swi_carried, reti_carried, retx_carried, jump_taken, jump_on, jump_sends, sent_moved, uneven_moved, uneven_on_any}
 use Rattle.engine.proofs.stepping.carry_out.Goals as goal
 
 pub returns-in-Arith-clause-machine : goal.returns-in-Arith-clause-machine
@@ -16,6 +16,12 @@ returns-in-Arith-clause-machine g c =
     ap (λ (f : Meaning → Machine). f (g.S.Store.meaning c.args.store.now)) c.arithmetic.ensures
     ∙ (arith_carried _ _ c.move_on.ensures _ _ _ _ _
     ∙ sym (ap (λ (o : Operation). carried_out o (stands c.args.machine.now (g.S.Store.meaning c.args.store.now))) c.in-Arith.is))
+
+pub returns-in-AddAddress-clause-machine : goal.returns-in-AddAddress-clause-machine
+returns-in-AddAddress-clause-machine g c =
+    ap (λ (f : Meaning → Machine). f (g.S.Store.meaning c.args.store.now)) c.add_address.ensures
+    ∙ (address_carried _ _ c.move_on-in-AddAddress.ensures _ _ _ _
+    ∙ sym (ap (λ (o : Operation). carried_out o (stands c.args.machine.now (g.S.Store.meaning c.args.store.now))) c.in-AddAddress.is))
 
 pub returns-in-Div-clause-machine : goal.returns-in-Div-clause-machine
 returns-in-Div-clause-machine g c =
@@ -73,6 +79,10 @@ returns-in-Swi-clause-machine g c =
 pub returns-in-Arith-clause-sent : goal.returns-in-Arith-clause-sent
 unfolding sent_by
 returns-in-Arith-clause-sent g c = sym (ap (λ (o : Operation). sent_by o (stands c.args.machine.now (g.S.Store.meaning c.args.store.now))) c.in-Arith.is)
+
+pub returns-in-AddAddress-clause-sent : goal.returns-in-AddAddress-clause-sent
+unfolding sent_by
+returns-in-AddAddress-clause-sent g c = sym (ap (λ (o : Operation). sent_by o (stands c.args.machine.now (g.S.Store.meaning c.args.store.now))) c.in-AddAddress.is)
 
 pub returns-in-Div-clause-sent : goal.returns-in-Div-clause-sent
 unfolding sent_by
@@ -145,6 +155,10 @@ returns-in-Retx-clause-machine g c =
 pub arithmetic-requires : goal.arithmetic-requires
 arithmetic-requires g c other =
     uneven_on_any _ c.move_on.new.machine (g.S.Store.meaning c.args.store.now) other (uneven_moved _ _ _ c.move_on.ensures (ap (λ (o : Operation). uneven (stands c.args.machine.now (g.S.Store.meaning c.args.store.now)) o) (sym c.in-Arith.is) ∙ c.requires))
+
+pub add_address-requires : goal.add_address-requires
+add_address-requires g c other =
+    uneven_on_any _ c.move_on-in-AddAddress.new.machine (g.S.Store.meaning c.args.store.now) other (uneven_moved _ _ _ c.move_on-in-AddAddress.ensures (ap (λ (o : Operation). uneven (stands c.args.machine.now (g.S.Store.meaning c.args.store.now)) o) (sym c.in-AddAddress.is) ∙ c.requires))
 
 pub divide-requires : goal.divide-requires
 divide-requires g c other =

@@ -4,7 +4,7 @@ use Rattle.line.specs.Elements.{element}
 use Rattle.line.proofs.Rows.{Made}
 use Rattle.line.proofs.vectors.add_address_as.Given as goal
 use Rattle.scalar.specs.Arithmetic.{computed}
-use Rattle.word.specs.declared.opcodes.Arith.TheVariants.{Addr}
+use Rattle.word.specs.declared.opcodes.Arith.TheVariants.{Add}
 
 abbrev pub invariant-loop-k : goal.invariant-loop-k
-invariant-loop-k l = Made l.kind (λ k. computed Addr l.kind (pos l.address) (element l.kind l.y k)) l.made l.k
+invariant-loop-k l = Made l.kind (λ k. computed Add l.kind (pos l.address) (element l.kind l.y k)) l.made l.k
