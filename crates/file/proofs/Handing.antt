@@ -7,7 +7,7 @@ use Rattle.word.specs.declared.element.ElementType.{ElementType}
 use Rattle.store.specs.Meaning.{Meaning}
 use Rattle.flat.specs.Data.{given, handed}
 use Rattle.flat.specs.Registers.{names, named}
-use Rattle.tags.proofs.Tests.{some_decides}
+use Rattle.flat.proofs.Somewhere.{some_decides}
 use Rattle.tags.specs.Names.{Names, Sound}
 use Rattle.file.specs.Standing.{data_of, of_tag}
 use Rattle.file.proofs.DataSide.{same_data}

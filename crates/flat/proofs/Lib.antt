@@ -1,1 +1,14 @@
+pub mod Somewhere
 pub mod Worked
+pub mod Coherence
+pub mod Writing
+pub mod Naming
+pub mod Leaving
+pub mod Moving
+pub mod Operating
+pub mod Stepping
+pub mod Several
+pub mod Calling
+pub mod StoreLaw
+pub mod Shows
+pub mod Turns

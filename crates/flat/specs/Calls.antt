@@ -3,19 +3,20 @@ use Rattle.std.specs.Prelude.{ℕ, zero, suc, ◌+◌, ◌*◌, Bool, true, fals
 use Rattle.refusal.specs.declared.Refusal.{Refusal}
 use Rattle.refusal.specs.declared.Refusal.TheVariants.{NoLines, Cold, Warm, NoRegister, OverLimit}
 use Rattle.word.specs.Lines.{little_endian}
-use Rattle.word.specs.declared.element.ElementType.TheVariants.{U8}
 use Rattle.marks.specs.Marks.{how_many}
 use Rattle.store.specs.Meaning.{Meaning, most}
 use Rattle.flat.specs.Data.{Data, given, shown, flushed, handed}
 use Rattle.flat.specs.Instructions.{Instruction}
 use Rattle.flat.specs.Machine.{Machine, with_data, with_control, word, ipc_address}
-use Rattle.flat.specs.Registers.{zeros, is_real}
+use Rattle.flat.specs.Registers.{blank, zeros, is_real}
+use Rattle.flat.specs.declared.bus.Bus.{Bus}
 use Rattle.flat.specs.Step.{step}
 use Rattle.flat.specs.declared.control.Control.{Control}
 use Rattle.flat.specs.declared.control.Mode.TheVariants.{Supervisor}
 use Rattle.flat.specs.declared.exception.Stepped.{Stepped}
 use Rattle.flat.specs.declared.exception.Stepped.TheVariants.{Done, Entered}
 use Rattle.flat.specs.declared.records.Ran.{Ran}
+use Rattle.flat.specs.declared.records.Slots.{Slots}
 use Rattle.flat.specs.declared.records.StepRecord.{StepRecord}
 use Rattle.flat.specs.declared.shown.ShownData.{ShownData}
 use Rattle.flat.specs.declared.shown.ShownInstruction.{ShownInstruction}
@@ -48,7 +49,7 @@ blank_control = record { mode = Supervisor; ie = false; xct = 0; swiargs = zeros
 
 -- Memory and backing copy are the store's lines, no line is touched, and every data register is at address 0 with type u8.
 abbrev pub started_data : Meaning → Data
-started_data m = record { registers = λ r. record { address = 0; kind = U8 }; memory = given m; touched = λ n. false; backing = m }
+started_data m = record { registers = λ r. blank; memory = given m; touched = λ n. false; backing = m }
 
 -- Every instruction register is at address 0 and holds the words of line 0; a zero register shows zeros.
 abbrev pub started_instructions : List ℕ → ℕ → Instruction
@@ -82,16 +83,28 @@ step_call = when_warm (λ f. answered (step f.machine).answer (with_machine (ste
 abbrev pub most_steps : ℕ
 most_steps = 1000000
 
--- Steps made one after the other: the machine, how many they were, what the last answered, a record of each, and the lines that they sent to the backing copy, in order.
-pub record Steps : Type 0 where
-  pub machine : Machine
-  pub ran : Ran
+-- What a trace keeps of steps: a record of each, and the lines that they sent to the backing copy, in order.
+pub record Kept : Type 0 where
   pub records : List StepRecord
   pub sent : List ℕ
 
+-- Nothing is kept.
+abbrev pub nothing_kept : Kept
+nothing_kept = record { records = []; sent = [] }
+
+-- What is kept of one thing and then of another.
+abbrev pub kept_then : Kept → Kept → Kept
+kept_then k l = record { records = k.records ++ l.records; sent = k.sent ++ l.sent }
+
+-- Steps made one after the other: the machine, how many they were, what the last answered, and what a trace keeps of them.
+pub record Steps : Type 0 where
+  pub machine : Machine
+  pub ran : Ran
+  pub kept : Kept
+
 -- No steps were made yet.
 abbrev pub no_steps : Machine → Steps
-no_steps m = record { machine = m; ran = record { steps = 0; last = Done }; records = []; sent = [] }
+no_steps m = record { machine = m; ran = record { steps = 0; last = Done }; kept = nothing_kept }
 
 -- A record has the mode, the address and the word before the step, and its answer.
 abbrev pub recorded : Machine → Stepped → StepRecord
@@ -102,6 +115,10 @@ abbrev pub sent_lines : Option ℕ → List ℕ
 sent_lines None = []
 sent_lines (Some n) = n ∷ []
 
+-- What a trace keeps of one step.
+abbrev pub kept_of_step : StepRecord → Bus → Kept
+kept_of_step made bus = record { records = made ∷ []; sent = sent_lines bus.sent }
+
 -- One more step.
 unfoldable pub one_more : Steps → Steps
 one_more s =
@@ -109,8 +126,7 @@ one_more s =
     record {
       machine = after.machine;
       ran = record { steps = s.ran.steps + 1; last = after.answer };
-      records = s.records ++ recorded s.machine after.answer ∷ [];
-      sent = s.sent ++ sent_lines after.sent;
+      kept = kept_then s.kept (kept_of_step (recorded s.machine after.answer) after.bus);
     }
 
 -- A run stops after the first step that enters.
@@ -140,27 +156,26 @@ unfoldable pub run : ℕ → Flat → Called Ran
 run limit = when_warm (within_limit limit (λ f. answered (run_steps limit f.machine).ran (with_machine (run_steps limit f.machine).machine f)))
 
 -- Trace is run with two trails. It stops before a step unless both have space for one more record.
-abbrev pub traces_on : ℕ → ℕ → Steps → Bool
-traces_on steps_space lines_space s = runs_on s && nat_lt (length s.records) steps_space && nat_lt (length s.sent) lines_space
+abbrev pub traces_on : Slots → Steps → Bool
+traces_on space s = runs_on s && nat_lt (length s.kept.records) space.steps && nat_lt (length s.kept.sent) space.lines
 
 -- Trace makes up to its limit of steps.
-abbrev pub trace_steps : ℕ → ℕ → ℕ → Machine → Steps
-trace_steps limit steps_space lines_space m = steps_while (traces_on steps_space lines_space) limit (no_steps m)
+abbrev pub trace_steps : ℕ → Slots → Machine → Steps
+trace_steps limit space m = steps_while (traces_on space) limit (no_steps m)
 
 -- What trace answers, and what it adds to its trails.
 pub record Traced : Type 0 where
   pub ran : Ran
-  pub records : List StepRecord
-  pub sent : List ℕ
+  pub kept : Kept
 
 -- What trace answers and adds, of the steps that it made.
 abbrev pub traced : Steps → Traced
-traced s = record { ran = s.ran; records = s.records; sent = s.sent }
+traced s = record { ran = s.ran; kept = s.kept }
 
 -- Trace is given the limit, and the space left in each trail.
-unfoldable pub trace : ℕ → ℕ → ℕ → Flat → Called Traced
-trace limit steps_space lines_space =
-    when_warm (within_limit limit (λ f. let s = trace_steps limit steps_space lines_space f.machine in answered (traced s) (with_machine s.machine f)))
+unfoldable pub trace : ℕ → Slots → Flat → Called Traced
+trace limit space =
+    when_warm (within_limit limit (λ f. let s = trace_steps limit space f.machine in answered (traced s) (with_machine s.machine f)))
 
 -- Pin puts the pin up or down.
 unfoldable pub pin : Bool → Flat → Called (Unit {0})
@@ -172,7 +187,7 @@ of_register r show f = if nat_lt r 128 then answered (show f.machine) f else ref
 
 -- A data register's address, type and 128 bytes.
 abbrev pub data_shown : ℕ → Machine → ShownData
-data_shown r m = record { address = (m.data_registers.registers r).address; kind = (m.data_registers.registers r).kind; bytes = shown m.data_registers r }
+data_shown r m = record { register = m.data_registers.registers r; bytes = shown m.data_registers r }
 
 -- The first k words of a line.
 unfoldable pub words_from : List ℕ → ℕ → List ℕ

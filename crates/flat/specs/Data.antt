@@ -1,9 +1,11 @@
 -- The data registers, the memory that they name lines of, and the backing copy.
-use Rattle.std.specs.Prelude.{ℕ, ◌/◌, ◌%◌, Bool, true, false, if◌then◌else◌, not, ◌&&◌, List, Some, None, Option, ◌==◌, nat_lt, ℤ}
+use Rattle.std.specs.Prelude.{ℕ, ◌/◌, Bool, true, false, if◌then◌else◌, not, ◌&&◌, List, Some, None, Option, ◌==◌, nat_lt, ℤ}
 use Rattle.word.specs.Types.{width}
+use Rattle.word.specs.declared.element.ElementType.{ElementType}
 use Rattle.line.specs.Elements.{element, put}
 use Rattle.store.specs.Meaning.{Meaning, with_line}
-use Rattle.flat.specs.Registers.{zeros, is_zero, line_of, shared, named, at}
+use Rattle.flat.specs.Registers.{zeros, is_zero, line_of, offset_of, shared, named, at}
+use Rattle.flat.specs.declared.bus.Bus.{Bus}
 use Rattle.flat.specs.declared.registers.DataRegister.{DataRegister}
 
 -- Each data register has an address and a type. Memory has the bytes of each line; the backing copy is what the store holds; a line that was written since it last went to the backing copy is touched.
@@ -35,7 +37,7 @@ shown d r = if is_zero r then zeros else d.memory (line d r)
 
 -- The number of a register's element in its line: offset div width.
 abbrev pub place : DataRegister → ℕ
-place r = r.address % 128 / width r.kind
+place r = offset_of r.address / width r.kind
 
 -- The element that a register shows, by its type.
 abbrev pub shown_element : Data → ℕ → ℤ
@@ -74,12 +76,32 @@ abbrev pub placed : ℕ → DataRegister → Data → Data
 placed r to d = record d { registers = at d.registers r to }
 
 -- Register r moves to an address and a type; if it is its line's last and goes to another, it leaves the line. A zero register never changes.
-unfoldable pub move : ℕ → DataRegister → Data → Data
-move r to d = if is_zero r then d else placed r to (if leaves r to.address d then left (line d r) d else d)
+unfoldable pub move_to : ℕ → DataRegister → Data → Data
+move_to r to d = if is_zero r then d else placed r to (if leaves r to.address d then left (line d r) d else d)
 
 -- The line that a move sends to the backing copy, if any.
 unfoldable pub sent : ℕ → ℕ → Data → Option ℕ
 sent r address d = if leaves r address d && d.touched (line d r) then Some (line d r) else None
+
+-- What a move does on the bus.
+abbrev pub move_bus : ℕ → ℕ → Data → Bus
+move_bus r address d = record { sent = sent r address d }
+
+-- Register r's line is copied onto that of an address, which is touched. With a zero register nothing is written.
+unfoldable pub copied : ℕ → ℕ → Data → Data
+copied r address d = if is_zero r then d else written (line_of address) (shown d r) d
+
+-- Register r takes its line along: the line is copied, and then the register moves.
+abbrev pub carry : ℕ → DataRegister → Data → Data
+carry r to d = move_to r to (copied r to.address d)
+
+-- What that does on the bus: what the move does.
+abbrev pub carry_bus : ℕ → ℕ → Data → Bus
+carry_bus r address d = move_bus r address d
+
+-- Register r gets another type, and stays where it is. A zero register never changes.
+abbrev pub retype : ℕ → ElementType → Data → Data
+retype r kind d = if is_zero r then d else placed r (record (d.registers r) { kind = kind }) d
 
 -- Every touched line goes to the backing copy, and its mark is cleared.
 unfoldable pub flushed : Data → Data

@@ -1,5 +1,5 @@
 -- What each operation does. All operands are those of the machine as it was before the step.
-use Rattle.std.specs.Prelude.{ℕ, suc, ◌+◌, true, if◌then◌else◌, List, [], ◌∷◌, set, get_or, None, Option, ◌==◌, ℤ, pos}
+use Rattle.std.specs.Prelude.{ℕ, suc, ◌+◌, Bool, true, if◌then◌else◌, List, [], ◌∷◌, set, get_or, None, Option, ◌==◌, ℤ, pos}
 use Rattle.word.specs.declared.element.ElementType.{ElementType}
 use Rattle.word.specs.declared.opcodes.Arith.{Arith}
 use Rattle.word.specs.declared.opcodes.Arith.TheVariants.{Add}
@@ -12,12 +12,14 @@ use Rattle.line.specs.Reductions.{over, reduced}
 use Rattle.line.specs.Vectors.{line_of as elements, filled}
 use Rattle.scalar.specs.Arithmetic.{computed, quotient, remainder}
 use Rattle.scalar.specs.Casts.{residue}
-use Rattle.flat.specs.Data.{Data, shown, written, write, write_element, placed, move, sent}
+use Rattle.flat.specs.Bus.{followed_by, quiet}
+use Rattle.flat.specs.Data.{Data, write, write_element, move_to, move_bus, carry, carry_bus, retype}
 use Rattle.flat.specs.Instructions.{Instruction, take}
-use Rattle.flat.specs.Machine.{Machine, go, ipc}
+use Rattle.flat.specs.Machine.{Machine, take_line, take_bus, ipc}
 use Rattle.flat.specs.Operands.{reg, kind_of, bytes_of, element_of, element_at, address_of, target, fetch_target, word_place, next_address}
 use Rattle.flat.specs.Raising.{is_taken, moves_on}
-use Rattle.flat.specs.Registers.{zeros, of_mode, is_zero, line_of}
+use Rattle.flat.specs.Registers.{zeros, loaded, of_mode}
+use Rattle.flat.specs.declared.bus.Bus.{Bus}
 use Rattle.flat.specs.declared.control.Control.{Control}
 use Rattle.flat.specs.declared.control.Mode.TheVariants.{User}
 
@@ -44,14 +46,6 @@ divide Vector a b c d m =
     let kind = kind_of m a in
     write (reg m d) (elements (kind_of m d) (λ k. remainder kind (element_at m b k) (element_at m c k))) (write (reg m a) (elements kind (λ k. quotient kind (element_at m b k) (element_at m c k))) m.data_registers)
 
--- Register r gets another type.
-abbrev pub retype : ℕ → ElementType → Data → Data
-retype r kind d = if is_zero r then d else placed r (record { address = (d.registers r).address; kind = kind }) d
-
--- Store copies dA's old line onto the new one, which is touched, and then does what load does. With d0 nothing is written.
-unfoldable pub copied : ℕ → ℕ → Data → Data
-copied r address d = if is_zero r then d else written (line_of address) (shown d r) d
-
 -- One of the four swiargs.
 abbrev pub swiarg : Control → ℕ → List ℕ
 swiarg c n = get_or c.swiargs n zeros
@@ -63,9 +57,9 @@ data_after (AddAddress form a b c) m = add_address form a b c m
 data_after (Div form a b c d) m = divide form a b c d m
 -- a reduction joins every element of dB's line, each cast to dA's type, into dA's element
 data_after (Reduce op a b) m = write_element (reg m a) (reduced op (kind_of m a) (kind_of m b) (bytes_of m b)) m.data_registers
--- load sets dA's address to dB's plus signed i, and its type; store does so after copying
-data_after (Load kind a b i) m = move (reg m a) (record { address = target m b i; kind = kind }) m.data_registers
-data_after (Store kind a b i) m = move (reg m a) (record { address = target m b i; kind = kind }) (copied (reg m a) (target m b i) m.data_registers)
+-- load sets dA's address to dB's plus signed i, and its type; store does so too, and takes dA's line along
+data_after (Load kind a b i) m = move_to (reg m a) (loaded kind (target m b i)) m.data_registers
+data_after (Store kind a b i) m = carry (reg m a) (loaded kind (target m b i)) m.data_registers
 -- dup casts dB's element to its type, fills dA's line with it and sets dA's type
 data_after (Dup kind a b) m = retype (reg m a) kind (write (reg m a) (filled kind (element_of m b)) m.data_registers)
 -- cpy out: ie and xct go, cast, to dA's element; a swiarg is dA's whole line
@@ -138,7 +132,7 @@ control_after (CopyOut from a) m = m.control
 
 -- ipc goes to the next word where the operation moves on.
 unfoldable pub moved_on : Operation → Machine → Machine
-moved_on op m = if moves_on m op then go (ipc m) (next_address m) m else m
+moved_on op m = if moves_on m op then take_line (ipc m) (next_address m) m else m
 
 -- An operation is carried out: operands are read, ipc moves on, then it is written.
 unfoldable pub carried_out : Operation → Machine → Machine
@@ -149,21 +143,37 @@ carried_out op m =
       control = control_after op m;
     }
 
--- The line that an operation sends to the backing copy: only load and store move a data register.
-unfoldable pub sent_by : Operation → Machine → Option ℕ
-sent_by (Load kind a b i) m = sent (reg m a) (target m b i) m.data_registers
-sent_by (Store kind a b i) m = sent (reg m a) (target m b i) m.data_registers
-sent_by (Arithmetic op form a b c) m = None
-sent_by (AddAddress form a b c) m = None
-sent_by (Div form a b c d) m = None
-sent_by (Reduce op a b) m = None
-sent_by (Dup kind a b) m = None
-sent_by (Fetch a b i j) m = None
-sent_by (JumpNotZero a b w) m = None
-sent_by (JumpZero a b w) m = None
-sent_by (Hand b w) m = None
-sent_by (CopyOut from a) m = None
-sent_by (CopyIn to a) m = None
-sent_by (Swi a b c d) m = None
-sent_by Reti m = None
-sent_by Retx m = None
+-- The machine m once registers a, a + 1, .. have each taken a line in a row from the start of fetch on, k of them.
+unfoldable pub fetched : ℕ → ℕ → ℤ → Machine → Machine → ℕ → Machine
+fetched a b i m on k = over (λ so_far k. take_line (reg m (a + k)) (fetch_target m b i k) so_far) on k
+
+-- What that did on the bus.
+unfoldable pub fetched_bus : ℕ → ℕ → ℤ → Machine → Machine → ℕ → Bus
+fetched_bus a b i m on k = over (λ so_far k. followed_by so_far (take_bus (reg m (a + k)) (fetch_target m b i k) (fetched a b i m on k))) quiet k
+
+-- What it does on the bus that ipc goes to the next word.
+abbrev pub next_bus : Machine → Bus
+next_bus m = take_bus (ipc m) (next_address m) m
+
+-- A jump that is taken puts ipc elsewhere.
+abbrev pub jump_bus : Bool → ℕ → ℕ → Machine → Bus
+jump_bus taken b w m = if taken then take_bus (ipc m) (word_place m b w) m else next_bus m
+
+-- What an operation does on the bus.
+unfoldable pub bus_of : Operation → Machine → Bus
+bus_of (Arithmetic op form a b c) m = next_bus m
+bus_of (AddAddress form a b c) m = next_bus m
+bus_of (Div form a b c d) m = next_bus m
+bus_of (Reduce op a b) m = next_bus m
+bus_of (Load kind a b i) m = followed_by (next_bus m) (move_bus (reg m a) (target m b i) m.data_registers)
+bus_of (Store kind a b i) m = followed_by (next_bus m) (carry_bus (reg m a) (target m b i) m.data_registers)
+bus_of (Dup kind a b) m = next_bus m
+bus_of (Fetch a b i j) m = followed_by (next_bus m) (fetched_bus a b i m (moved_on (Fetch a b i j) m) (suc j))
+bus_of (JumpNotZero a b w) m = jump_bus (is_taken m (JumpNotZero a b w)) b w m
+bus_of (JumpZero a b w) m = jump_bus (is_taken m (JumpZero a b w)) b w m
+bus_of (Hand b w) m = followed_by (next_bus m) (take_bus (of_mode User 63) (word_place m b w) (moved_on (Hand b w) m))
+bus_of (CopyOut from a) m = next_bus m
+bus_of (CopyIn to a) m = next_bus m
+bus_of (Swi a b c d) m = next_bus m
+bus_of Reti m = quiet
+bus_of Retx m = quiet

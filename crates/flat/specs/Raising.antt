@@ -1,5 +1,5 @@
 -- Which exception the machine enters instead of carrying out an operation: the first that applies, in the order of the rules.
-use Rattle.std.specs.Prelude.{ℕ, suc, ◌%◌, Bool, true, false, if◌then◌else◌, not, ◌&&◌, ◌||◌, List, [], ◌∷◌, Some, None, Option, ◌==◌, nat_lt, unsigned_abs}
+use Rattle.std.specs.Prelude.{ℕ, suc, Bool, true, false, if◌then◌else◌, not, ◌&&◌, ◌||◌, List, [], ◌∷◌, Some, None, Option, ◌==◌, nat_lt, unsigned_abs}
 use Rattle.std.specs.List.{list_any}
 use Rattle.std.specs.Option.{option_or}
 use Rattle.word.specs.Types.{width}
@@ -17,7 +17,7 @@ use Rattle.flat.specs.Data.{line}
 use Rattle.flat.specs.Instructions.{addresses}
 use Rattle.flat.specs.Machine.{Machine, ipc_address}
 use Rattle.flat.specs.Operands.{reg, kind_of, element_of, element_at, target, fetch_target, next_address}
-use Rattle.flat.specs.Registers.{is_zero, line_of, named}
+use Rattle.flat.specs.Registers.{is_zero, line_of, named, offset_of}
 use Rattle.flat.specs.declared.control.Mode.{Mode}
 use Rattle.flat.specs.declared.control.Mode.TheVariants.{User, Supervisor}
 use Rattle.flat.specs.declared.exception.Exception.{Exception}
@@ -36,28 +36,28 @@ use Rattle.flat.specs.declared.rules.Writes.{Writes}
 use Rattle.flat.specs.declared.rules.Writes.TheVariants.{Nothing, Own, Both, There}
 use Rattle.flat.specs.declared.exception.Exception.TheVariants.{ZeroDivisor, Undefined, Wide, UserReti, UserRetx, UserCopyOut, UserCopyIn, NextLine, MissingLine, FixedLine}
 
--- No rule but that ipc goes to the next word.
-abbrev pub plain : Rules
-plain = record { in_user_mode = None; not_wide = NoField; one_width = AnyWidths; needs = NoLine; writes = Nothing; divisor = Absent; goes = On }
+-- A row, column by column: the exception in user mode, the registers that must not be 64 bits wide, those that must be of one width in the vector form, the lines that must be there, those that get bytes, the divisor, and where ipc goes.
+abbrev pub row : Option Exception → Narrow → Even → Needs → Writes → Divisor → Goes → Rules
+row user narrow even needs writes divisor goes = record { in_user_mode = user; not_wide = narrow; one_width = even; needs = needs; writes = writes; divisor = divisor; goes = goes }
 
 -- The row of each operation. Hand, reti, retx and cpy are the supervisor's: in user mode hand is undefined, and the others enter exceptions of their own.
 abbrev pub rules_of : Operation → Rules
-rules_of (Arithmetic op form a b c) = record plain { not_wide = OfArith op a b c; one_width = EvenThree form a b c; writes = Own a }
-rules_of (AddAddress form a b c) = record plain { not_wide = Two a c; one_width = EvenTwo form a c; writes = Own a }
-rules_of (Div form a b c d) = record plain { not_wide = One c; one_width = Four form a b c d; writes = Both a d; divisor = Cast form a c }
-rules_of (Reduce op a b) = record plain { not_wide = OfReduction op a; writes = Own a }
-rules_of (Load kind a b i) = record plain { needs = Target b i }
-rules_of (Store kind a b i) = record plain { needs = Target b i; writes = There a b i }
-rules_of (Dup kind a b) = record plain { writes = Own a }
-rules_of (Fetch a b i j) = record plain { needs = Fetched b i j }
-rules_of (JumpNotZero a b w) = record plain { goes = OnIfZero a }
-rules_of (JumpZero a b w) = record plain { goes = OnIfNotZero a }
-rules_of (Hand b w) = record plain { in_user_mode = Some Undefined }
-rules_of (CopyOut from a) = record plain { in_user_mode = Some (UserCopyOut from); writes = Own a }
-rules_of (CopyIn to a) = record plain { in_user_mode = Some (UserCopyIn to) }
-rules_of (Swi a b c d) = plain
-rules_of Reti = record plain { in_user_mode = Some UserReti; goes = Nowhere }
-rules_of Retx = record plain { in_user_mode = Some UserRetx; goes = Nowhere }
+rules_of (Arithmetic op form a b c) = row None (OfArith op a b c) (EvenThree form a b c) NoLine (Own a) Absent On
+rules_of (AddAddress form a b c) = row None (Two a c) (EvenTwo form a c) NoLine (Own a) Absent On
+rules_of (Div form a b c d) = row None (One c) (Four form a b c d) NoLine (Both a d) (Cast form a c) On
+rules_of (Reduce op a b) = row None (OfReduction op a) AnyWidths NoLine (Own a) Absent On
+rules_of (Load kind a b i) = row None NoField AnyWidths (Target b i) Nothing Absent On
+rules_of (Store kind a b i) = row None NoField AnyWidths (Target b i) (There a b i) Absent On
+rules_of (Dup kind a b) = row None NoField AnyWidths NoLine (Own a) Absent On
+rules_of (Fetch a b i j) = row None NoField AnyWidths (Fetched b i j) Nothing Absent On
+rules_of (JumpNotZero a b w) = row None NoField AnyWidths NoLine Nothing Absent (OnIfZero a)
+rules_of (JumpZero a b w) = row None NoField AnyWidths NoLine Nothing Absent (OnIfNotZero a)
+rules_of (Hand b w) = row (Some Undefined) NoField AnyWidths NoLine Nothing Absent On
+rules_of (CopyOut from a) = row (Some (UserCopyOut from)) NoField AnyWidths NoLine (Own a) Absent On
+rules_of (CopyIn to a) = row (Some (UserCopyIn to)) NoField AnyWidths NoLine Nothing Absent On
+rules_of (Swi a b c d) = row None NoField AnyWidths NoLine Nothing Absent On
+rules_of Reti = row (Some UserReti) NoField AnyWidths NoLine Nothing Absent Nowhere
+rules_of Retx = row (Some UserRetx) NoField AnyWidths NoLine Nothing Absent Nowhere
 
 -- In group 0, 64 bits are too wide for dA, dB and dC in slt, mul, shifts and rotates.
 abbrev pub narrow_arith : Arith → ℕ → ℕ → ℕ → List ℕ
@@ -194,7 +194,7 @@ moves_on m op = goes_on m (rules_of op).goes
 
 -- ipc would pass word 31, and no instruction register names the next line.
 unfoldable pub no_next_line : Machine → Operation → Bool
-no_next_line m op = moves_on m op && (ipc_address m % 128 == 124) && not (named (addresses m.instructions) (line_of (next_address m)))
+no_next_line m op = moves_on m op && (offset_of (ipc_address m) == 124) && not (named (addresses m.instructions) (line_of (next_address m)))
 
 -- The first exception of a list whose test holds.
 unfoldable pub first : List (Bool × Exception) → Option Exception

@@ -1,8 +1,11 @@
 -- Registers of either kind, data or instruction: which are zero registers, and which line a register names.
-use Rattle.std.specs.Prelude.{ℕ, ◌+◌, ◌/◌, Bool, if◌then◌else◌, List, replicate, not, nat_lt, ◌&&◌, ◌||◌, ◌==◌}
+use Rattle.std.specs.Prelude.{ℕ, ◌+◌, ◌/◌, ◌%◌, Bool, if◌then◌else◌, List, replicate, not, nat_lt, ◌&&◌, ◌||◌, ◌==◌}
 use Rattle.line.specs.Dividing.{somewhere}
 use Rattle.flat.specs.declared.control.Mode.{Mode}
 use Rattle.flat.specs.declared.control.Mode.TheVariants.{User, Supervisor}
+use Rattle.flat.specs.declared.registers.DataRegister.{DataRegister}
+use Rattle.word.specs.declared.element.ElementType.{ElementType}
+use Rattle.word.specs.declared.element.ElementType.TheVariants.{U8}
 
 -- There are 128 registers of a kind: 0 to 63 belong to user mode, 64 to 127 to supervisor mode. A word's field names a register of the mode that the machine is in.
 abbrev pub of_mode : Mode → ℕ → ℕ
@@ -21,9 +24,20 @@ is_real r = nat_lt r 128 && not (is_zero r)
 unfoldable pub zeros : List ℕ
 zeros = replicate 128 0
 
--- The line of an address.
+-- The line of an address, and its place in that line.
 abbrev pub line_of : ℕ → ℕ
 line_of address = address / 128
+
+abbrev pub offset_of : ℕ → ℕ
+offset_of address = address % 128
+
+-- A data register after boot: address 0, type u8. A zero register is so at all times.
+abbrev pub blank : DataRegister
+blank = record { address = 0; kind = U8 }
+
+-- A data register that a load or a store has put at an address, with a type.
+abbrev pub loaded : ElementType → ℕ → DataRegister
+loaded kind address = record { address = address; kind = kind }
 
 -- Register r, which is no zero register, names the line n that its address lies in.
 abbrev pub names : (ℕ → ℕ) → ℕ → ℕ → Bool

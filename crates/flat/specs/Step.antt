@@ -3,9 +3,11 @@ use Rattle.std.specs.Prelude.{ℕ, Bool, true, false, if◌then◌else◌, ◌&&
 use Rattle.reading.specs.Reading.{operation}
 use Rattle.word.specs.declared.operations.Operation.{Operation}
 use Rattle.word.specs.declared.operations.Operation.TheVariants.{Arith as Arithmetic, AddAddress, Div, Reduce, Load, Store, Dup, Fetch, JumpNotZero, JumpZero, Hand, CopyOut, CopyIn, Swi, Reti, Retx}
-use Rattle.flat.specs.Machine.{Machine, word, entered}
-use Rattle.flat.specs.Operations.{carried_out, sent_by}
+use Rattle.flat.specs.Bus.{followed_by}
+use Rattle.flat.specs.Machine.{Machine, word, entered, entered_bus}
+use Rattle.flat.specs.Operations.{carried_out, bus_of}
 use Rattle.flat.specs.Raising.{raised}
+use Rattle.flat.specs.declared.bus.Bus.{Bus}
 use Rattle.flat.specs.declared.control.Mode.{Mode}
 use Rattle.flat.specs.declared.control.Mode.TheVariants.{User, Supervisor}
 use Rattle.flat.specs.declared.exception.Exception.{Exception}
@@ -13,23 +15,28 @@ use Rattle.flat.specs.declared.exception.Exception.TheVariants.{Interrupt, Undef
 use Rattle.flat.specs.declared.exception.Stepped.{Stepped}
 use Rattle.flat.specs.declared.exception.Stepped.TheVariants.{Done, Entered}
 
--- What a step leaves, what it answers, and the line that it sends to the backing copy, if any.
+-- What a step leaves, what it answers, and what it does on the bus.
 pub record AfterStep : Type 0 where
   pub machine : Machine
   pub answer : Stepped
-  pub sent : Option ℕ
+  pub bus : Bus
 
 -- The machine enters an exception, and does nothing more.
 abbrev pub enters : Exception → Machine → AfterStep
-enters x m = record { machine = entered x m; answer = Entered x; sent = None }
+enters x m = record { machine = entered x m; answer = Entered x; bus = entered_bus x m }
 
 -- An operation is carried out, and nothing more.
 abbrev pub done : Operation → Machine → AfterStep
-done op m = record { machine = carried_out op m; answer = Done; sent = sent_by op m }
+done op m = record { machine = carried_out op m; answer = Done; bus = bus_of op m }
 
--- An operation that raises no exception is carried out; swi then enters its exception.
+-- Swi is carried out, and then enters its exception.
+abbrev pub done_and_entered : Operation → Machine → AfterStep
+done_and_entered op m =
+    let after = enters Software (carried_out op m) in
+    record after { bus = followed_by (bus_of op m) after.bus }
+
+-- An operation that raises no exception is carried out.
 unfoldable pub does : Operation → Machine → AfterStep
-does (Swi a b c d) m = enters Software (carried_out (Swi a b c d) m)
 does (Arithmetic op form a b c) m = done (Arithmetic op form a b c) m
 does (AddAddress form a b c) m = done (AddAddress form a b c) m
 does (Div form a b c d) m = done (Div form a b c d) m
@@ -43,6 +50,7 @@ does (JumpZero a b w) m = done (JumpZero a b w) m
 does (Hand b w) m = done (Hand b w) m
 does (CopyOut from a) m = done (CopyOut from a) m
 does (CopyIn to a) m = done (CopyIn to a) m
+does (Swi a b c d) m = done_and_entered (Swi a b c d) m
 does Reti m = done Reti m
 does Retx m = done Retx m
 

@@ -4,6 +4,9 @@
 // refusals, words and their reading, arithmetic, lines, what stores mean, and how marks are counted.
 #![tactic(auto)]
 
+mod answer;
+mod bus;
+mod call;
 mod control;
 mod exception;
 mod records;
@@ -11,9 +14,12 @@ mod registers;
 mod rules;
 mod shown;
 
+pub use answer::Answer;
+pub use bus::Bus;
+pub use call::Call;
 pub use control::{Control, Mode};
 pub use exception::{Exception, Stepped};
-pub use records::{Ran, StepRecord};
-pub use registers::DataRegister;
+pub use records::{Ran, Slots, StepRecord};
+pub use registers::{DataRegister, line_of, offset_of};
 pub use rules::{Divisor, Even, Goes, Narrow, Needs, Rules, Writes};
 pub use shown::{ShownData, ShownInstruction};

@@ -17,3 +17,10 @@ pub struct Ran {
     pub steps: u32,
     pub last: Stepped,
 }
+
+// A number of slots in each trail of a trace: that of its steps, and that of the lines that are sent back.
+#[derive(Clone, Copy, PartialEq, Eq, Debug)]
+pub struct Slots {
+    pub steps: usize,
+    pub lines: usize,
+}

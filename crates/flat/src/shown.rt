@@ -1,10 +1,9 @@
 // What show gives of a register. (Of everything else it gives `Control`.)
-use word::ElementType;
+use crate::registers::DataRegister;
 
 #[derive(Clone, Copy, PartialEq, Eq, Debug)]
 pub struct ShownData {
-    pub address: u32,
-    pub kind: ElementType,
+    pub register: DataRegister,
     pub bytes: [u8; 128],
 }
 

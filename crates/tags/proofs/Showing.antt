@@ -9,7 +9,8 @@ use Rattle.line.specs.Dividing.{somewhere}
 use Rattle.tags.proofs.Counts.{alone, another, somebody}
 use Rattle.tags.proofs.Finds.{find_is, found}
 use Rattle.tags.proofs.All.{length-all}
-use Rattle.tags.proofs.Tests.{some_decides, list_count}
+use Rattle.flat.proofs.Somewhere.{some_decides}
+use Rattle.tags.proofs.Tests.{list_count}
 use Rattle.marks.proofs.Counting.{how_many-same, how_many-none}
 use Rattle.tags.proofs.Holding.{Holds}
 use Rattle.tags.specs.Sounds.{whole_at}

@@ -1,5 +1,5 @@
 -- One call, on the backing copy.
-use Rattle.std.proofs.Common.{◌≡◌, ◌<◌, ℕ, Bool, true, false, if◌then◌else◌, List, Ok, nat_lt, ◌==◌, min, refl, sym, subst, ap, ◌∙◌, arith}
+use Rattle.std.proofs.Common.{◌≡◌, ◌<◌, ℕ, Bool, true, false, if◌then◌else◌, List, Ok, nat_lt, ◌==◌, refl, sym, subst, ap, ◌∙◌, arith}
 use Rattle.std.proofs.lemmas.Bool.{true≢false}
 use Rattle.std.proofs.lemmas.Bool.Decides.{nat_tests}
 use Rattle.refusal.specs.declared.Refusal.{Refusal}
@@ -10,14 +10,15 @@ use Rattle.flat.specs.Data.{Data, given, flushed}
 use Rattle.flat.specs.Machine.{Machine, with_data, with_control}
 use Rattle.flat.specs.Step.{step}
 use Rattle.flat.specs.declared.records.Ran.{Ran as RanSteps}
-use Rattle.history.proofs.Coherence.{Coherent}
-use Rattle.history.proofs.Several.{data_at, coherent_at, size_at, canwrite_at, beside_at, line_at, run_counted}
-use Rattle.history.specs.Fed.{Told, told, told_trace, made}
-use Rattle.history.specs.Leaving.{after_steps, steps_made, sends_all, LineAfter, StoreAfter}
-use Rattle.history.specs.declared.answer.Answer.{Answer}
-use Rattle.history.specs.declared.answer.Answer.TheVariants.{Booted, Stepped, Ran, Pinned, Data as DataAnswer, Instruction, Rest, Flushed, Halted}
-use Rattle.history.specs.declared.call.Call.{Call}
-use Rattle.history.specs.declared.call.Call.TheVariants.{Boot, Step, Run, Trace, Pin, ShowData, ShowInstruction, ShowRest, Flush, Halt}
+use Rattle.flat.specs.declared.records.Slots.{Slots}
+use Rattle.flat.proofs.Coherence.{Coherent}
+use Rattle.flat.proofs.Several.{data_at, coherent_at, size_at, canwrite_at, beside_at, line_at, run_counted}
+use Rattle.flat.specs.Fed.{Told, told, told_trace, made, at_most}
+use Rattle.flat.specs.Leaving.{after_steps, steps_made, sends_all, LineAfter, StoreAfter}
+use Rattle.flat.specs.declared.answer.Answer.{Answer}
+use Rattle.flat.specs.declared.answer.Answer.TheVariants.{Booted, Stepped, Ran, Pinned, Data as DataAnswer, Instruction, Rest, Flushed, Halted}
+use Rattle.flat.specs.declared.call.Call.{Call}
+use Rattle.flat.specs.declared.call.Call.TheVariants.{Boot, Step, Run, Trace, Pin, ShowData, ShowInstruction, ShowRest, Flush, Halt}
 
 -- The data of a machine, warm or cold.
 abbrev pub data_of : Flat → Data
@@ -186,13 +187,13 @@ module _ (f : Flat) (c : Coherent (data_of f)) where
   refuses_trace : (why : Refusal) → After f (told_trace (refused why f))
   refuses_trace why = quiet f (told_trace (refused why f)) refl refl refl c
 
-  traces : (limit steps_space lines_space : ℕ) → After f (told_trace (trace limit steps_space lines_space f))
+  traces : (limit : ℕ) (space : Slots) → After f (told_trace (trace limit space f))
   unfolding trace
-  traces limit steps_space lines_space =
-      let s = trace_steps limit steps_space lines_space f.machine in
+  traces limit space =
+      let s = trace_steps limit space f.machine in
       let done : Called TracedSteps = answered (traced s) (with_machine s.machine f) in
       let limited : Called TracedSteps = if nat_lt most_steps limit then refused OverLimit f else done in
-      let p = stepping f (told_trace done) refl (run_counted f.machine (traces_on steps_space lines_space) limit) c in
+      let p = stepping f (told_trace done) refl (run_counted f.machine (traces_on space) limit) c in
       let q = chosen (λ (x : Called TracedSteps). After f (told_trace x)) (nat_lt most_steps limit) (refused OverLimit f) done (refuses_trace OverLimit) p in
       chosen (λ (x : Called TracedSteps). After f (told_trace x)) f.warm limited (refused Cold f) q (refuses_trace Cold)
 
@@ -222,15 +223,15 @@ module _ (f : Flat) (c : Coherent (data_of f)) where
       warm name (of_register r show) q
 
   -- Every call.
-  pub calls : (steps_left lines_left : ℕ) (call : Call) → After f (made steps_left lines_left call f)
+  pub calls : (space : Slots) (call : Call) → After f (made space call f)
   unfolding made show_data show_instruction show_rest
-  calls steps_left lines_left Boot = boots
-  calls steps_left lines_left Step = steps
-  calls steps_left lines_left (Run limit) = runs limit
-  calls steps_left lines_left (Trace limit a b) = traces limit (min a steps_left) (min b lines_left)
-  calls steps_left lines_left (Pin up) = pins up
-  calls steps_left lines_left (ShowData r) = showing DataAnswer r (data_shown r) refl refl
-  calls steps_left lines_left (ShowInstruction r) = showing Instruction r (instruction_shown r) refl refl
-  calls steps_left lines_left ShowRest = warm Rest (λ (g : Flat). answered g.machine.control g) (shows Rest f.machine.control f refl refl refl c)
-  calls steps_left lines_left Flush = flushes
-  calls steps_left lines_left Halt = halts
+  calls space Boot = boots
+  calls space Step = steps
+  calls space (Run limit) = runs limit
+  calls space (Trace limit most) = traces limit (at_most most space)
+  calls space (Pin up) = pins up
+  calls space (ShowData r) = showing DataAnswer r (data_shown r) refl refl
+  calls space (ShowInstruction r) = showing Instruction r (instruction_shown r) refl refl
+  calls space ShowRest = warm Rest (λ (g : Flat). answered g.machine.control g) (shows Rest f.machine.control f refl refl refl c)
+  calls space Flush = flushes
+  calls space Halt = halts

@@ -2,7 +2,7 @@
 use Rattle.std.proofs.Common.{◌≡◌, ℕ, ◌<◌, Bool, true, false, not, ◌&&◌, ◌==◌, refl, arith}
 use Rattle.std.proofs.lemmas.Bool.Decides.{nat_tests}
 use Rattle.flat.specs.Registers.{is_zero, line_of, names, named, shared, at}
-use Rattle.tags.proofs.Tests.{some_decides}
+use Rattle.flat.proofs.Somewhere.{some_decides}
 
 -- A register names the line.
 is_named : (address : ℕ → ℕ) (q n : ℕ) → q < 128 → names address q n ≡ true → named address n ≡ true

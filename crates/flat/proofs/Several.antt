@@ -5,9 +5,9 @@ use Rattle.flat.specs.Calls.{Steps, steps_while, no_steps, one_more}
 use Rattle.flat.specs.Data.{Data}
 use Rattle.flat.specs.Machine.{Machine}
 use Rattle.flat.specs.Step.{step}
-use Rattle.history.proofs.Coherence.{Coherent, Sends, Goes}
-use Rattle.history.proofs.Stepping.{step_goes}
-use Rattle.history.specs.Leaving.{after_steps, is_left, LastLeft, LineAfter}
+use Rattle.flat.proofs.Coherence.{Coherent, Sends, Goes}
+use Rattle.flat.proofs.Stepping.{step_goes}
+use Rattle.flat.specs.Leaving.{after_steps, is_left, LastLeft, LineAfter}
 
 -- The data after k steps.
 abbrev pub data_at : ℕ → Machine → Data

@@ -7,16 +7,22 @@ use Rattle.flat.specs.Data.{addresses}
 use Rattle.flat.specs.Machine.{Machine}
 use Rattle.flat.specs.Registers.{named}
 use Rattle.flat.specs.Step.{step}
-use Rattle.history.specs.Fed.{Told}
-use Rattle.history.specs.declared.answer.Answer.{Answer}
-use Rattle.history.specs.declared.answer.Answer.TheVariants.{Stepped, Ran, Traced, Flushed, Halted}
+use Rattle.flat.specs.Fed.{Told}
+use Rattle.flat.specs.declared.answer.Answer.{Answer}
+use Rattle.flat.specs.declared.answer.Answer.TheVariants.{Booted, Stepped, Ran, Traced, Pinned, Data, Instruction, Rest, Flushed, Halted}
 
 -- How many steps a call made.
 abbrev pub steps_of : Answer → ℕ
 steps_of (Stepped x) = 1
 steps_of (Ran ran) = ran.steps
 steps_of (Traced ran sent) = ran.steps
-steps_of a = 0
+steps_of Booted = 0
+steps_of Pinned = 0
+steps_of (Data shown) = 0
+steps_of (Instruction shown) = 0
+steps_of (Rest control) = 0
+steps_of (Flushed n) = 0
+steps_of (Halted n) = 0
 
 -- A refused call made none.
 abbrev pub steps_made : Result Answer Refusal → ℕ
@@ -27,7 +33,14 @@ steps_made (Err why) = 0
 abbrev pub is_flush : Answer → Bool
 is_flush (Flushed n) = true
 is_flush (Halted n) = true
-is_flush a = false
+is_flush Booted = false
+is_flush (Stepped x) = false
+is_flush (Ran ran) = false
+is_flush (Traced ran sent) = false
+is_flush Pinned = false
+is_flush (Data shown) = false
+is_flush (Instruction shown) = false
+is_flush (Rest control) = false
 
 abbrev pub sends_all : Result Answer Refusal → Bool
 sends_all (Ok a) = is_flush a

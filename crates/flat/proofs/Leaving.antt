@@ -5,7 +5,7 @@ use Rattle.std.proofs.lemmas.Bool.Decides.{nat_tests}
 use Rattle.store.specs.Meaning.{Meaning, with_line}
 use Rattle.flat.specs.Data.{Data, given, accepted, sent_back, let_go, left}
 use Rattle.flat.specs.Registers.{at}
-use Rattle.history.proofs.Coherence.{Coherent}
+use Rattle.flat.proofs.Coherence.{Coherent}
 
 -- Memory stays as it was, and of the backing copy the line that is left holds what memory holds.
 pub record Left (n : ℕ) (d after : Data) : Type 0 where

@@ -4,10 +4,9 @@ use Rattle.std.proofs.Math.Path.{fun_ext}
 use Rattle.std.proofs.lemmas.Bool.{cond-true, cond-false}
 use Rattle.std.proofs.lemmas.Bool.Decides.{nat_tests}
 use Rattle.word.specs.declared.element.ElementType.{ElementType}
-use Rattle.flat.specs.Data.{Data, shown, addresses, line, written, write, write_element, placed}
-use Rattle.flat.specs.Operations.{retype, copied}
+use Rattle.flat.specs.Data.{Data, shown, addresses, line, written, write, write_element, placed, retype, copied}
 use Rattle.flat.specs.Registers.{is_zero, line_of}
-use Rattle.history.proofs.Coherence.{Coherent, Keeps}
+use Rattle.flat.proofs.Coherence.{Coherent, Keeps}
 
 -- A line that can be written may be.
 written_keeps : (n : ℕ) (b : List ℕ) (d : Data) → d.backing.canwrite n ≡ true → Coherent d → Keeps d (written n b d)

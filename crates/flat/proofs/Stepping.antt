@@ -8,10 +8,10 @@ use Rattle.flat.specs.Raising.{raised}
 use Rattle.flat.specs.Step.{AfterStep, step, enters, does, obeyed, obeyed_unless, interrupted}
 use Rattle.flat.specs.declared.exception.Exception.{Exception}
 use Rattle.flat.specs.declared.exception.Exception.TheVariants.{Interrupt}
-use Rattle.history.proofs.Coherence.{Coherent, Goes}
-use Rattle.history.proofs.Moving.{keeps_goes}
-use Rattle.history.proofs.Operating.{data_goes}
-use Rattle.history.proofs.Writing.{stays}
+use Rattle.flat.proofs.Coherence.{Coherent, Goes}
+use Rattle.flat.proofs.Moving.{keeps_goes}
+use Rattle.flat.proofs.Operating.{data_goes}
+use Rattle.flat.proofs.Writing.{stays}
 
 -- Of the machine after a step.
 abbrev After : Machine → AfterStep → Type 0

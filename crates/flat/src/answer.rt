@@ -1,5 +1,8 @@
 // What the calls answer, as values.
-use flat::{Control, Ran, ShownData, ShownInstruction, Stepped};
+use crate::control::Control;
+use crate::exception::Stepped;
+use crate::records::Ran;
+use crate::shown::{ShownData, ShownInstruction};
 
 #[derive(Clone, Copy, PartialEq, Eq, Debug)]
 pub enum Answer {

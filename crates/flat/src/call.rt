@@ -1,4 +1,5 @@
 // The calls, as values: what may be made of a machine, with what it is given.
+use crate::records::Slots;
 
 #[derive(Clone, Copy, PartialEq, Eq, Debug)]
 pub enum Call {
@@ -9,8 +10,7 @@ pub enum Call {
     // up to so many steps, with so much space at most for records of them and for lines sent back
     Trace {
         limit: u32,
-        steps: usize,
-        lines: usize,
+        most: Slots,
     },
     // puts the pin up or down
     Pin(bool),

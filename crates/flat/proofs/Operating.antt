@@ -15,9 +15,9 @@ use Rattle.flat.specs.Registers.{is_zero, line_of, of_mode}
 use Rattle.flat.specs.declared.control.Mode.{Mode}
 use Rattle.flat.specs.declared.control.Mode.TheVariants.{User, Supervisor}
 use Rattle.flat.specs.declared.exception.Exception.{Exception}
-use Rattle.history.proofs.Coherence.{Coherent, Goes, Keeps, leaving}
-use Rattle.history.proofs.Moving.{keeps_goes, move_goes, not_there, then_goes}
-use Rattle.history.proofs.Writing.{stays, both_keep, write_keeps, element_keeps, retype_keeps, copied_keeps, copied_others}
+use Rattle.flat.proofs.Coherence.{Coherent, Goes, Keeps, leaving}
+use Rattle.flat.proofs.Moving.{keeps_goes, move_goes, not_there, then_goes}
+use Rattle.flat.proofs.Writing.{stays, both_keep, write_keeps, element_keeps, retype_keeps, copied_keeps, copied_others}
 
 -- Of two, neither.
 second_none : (x y : Option Exception) → option_or x y ≡ None → y ≡ None

@@ -4,13 +4,13 @@ use Rattle.std.proofs.Math.Path.{fun_ext}
 use Rattle.std.proofs.lemmas.Bool.{cond-true, cond-false, true≢false}
 use Rattle.std.proofs.lemmas.Bool.Decides.{nat_tests}
 use Rattle.store.specs.Meaning.{Meaning}
-use Rattle.flat.specs.Data.{Data, addresses, line, leaves, left, move, placed}
+use Rattle.flat.specs.Data.{Data, addresses, line, leaves, left, move_to, placed}
 use Rattle.flat.specs.Registers.{at, is_zero, line_of, named, shared}
 use Rattle.flat.specs.declared.registers.DataRegister.{DataRegister}
-use Rattle.history.proofs.Coherence.{Coherent, Goes, Keeps, leaving}
-use Rattle.history.proofs.Leaving.{Left, leaves_line}
-use Rattle.history.proofs.Naming.{departs, new_named, others_named, own_named, own_left, all_named}
-use Rattle.history.proofs.Writing.{stays}
+use Rattle.flat.proofs.Coherence.{Coherent, Goes, Keeps, leaving}
+use Rattle.flat.proofs.Leaving.{Left, leaves_line}
+use Rattle.flat.proofs.Naming.{departs, new_named, others_named, own_named, own_left, all_named}
+use Rattle.flat.proofs.Writing.{stays}
 
 -- A line that is named before and after is not left.
 stayed : (n : ℕ) (d after : Data) → (named (addresses d) n ≡ true → named (addresses after) n ≡ true) → leaving n d after ≡ false
@@ -110,17 +110,17 @@ module _ (r : ℕ) (to : DataRegister) (d : Data) (small : r < 128) (real : is_z
   real_goes c true h = placed_leaves (sym is_leaving ∙ h) (left (line d r) d) (leaves_line (line d r) d c)
   real_goes c false h = placed_stays (sym is_leaving ∙ h) c
 
-pub move_goes : (r : ℕ) (to : DataRegister) (d : Data) → r < 128 → Coherent d → Goes d (move r to d)
-unfolding move
+pub move_goes : (r : ℕ) (to : DataRegister) (d : Data) → r < 128 → Coherent d → Goes d (move_to r to d)
+unfolding move_to
 move_goes r to d small c = by_zero (is_zero r) refl
   where
-    by_zero : (z : Bool) → is_zero r ≡ z → Goes d (move r to d)
+    by_zero : (z : Bool) → is_zero r ≡ z → Goes d (move_to r to d)
     by_zero true h = subst (λ (x : Data). Goes d x) (sym (cond-true _ _ _ h)) (keeps_goes d d (stays d c))
     by_zero false h = subst (λ (x : Data). Goes d x) (sym (cond-false _ _ _ h)) (real_goes r to d small h c (leaves r to.address d) refl)
 
 -- A register that moves names the line that it goes to.
-pub arrives : (r : ℕ) (to : DataRegister) (d : Data) → r < 128 → is_zero r ≡ false → Coherent d → named (addresses (move r to d)) (line_of to.address) ≡ true
-unfolding move
+pub arrives : (r : ℕ) (to : DataRegister) (d : Data) → r < 128 → is_zero r ≡ false → Coherent d → named (addresses (move_to r to d)) (line_of to.address) ≡ true
+unfolding move_to
 arrives r to d small real c =
     ap (λ (x : Data). named (addresses x) (line_of to.address)) (cond-false _ _ _ real)
     ∙ (name_after r to d small real (if leaves r to.address d then left (line d r) d else d) (registers (leaves r to.address d)) (line_of to.address)
@@ -131,17 +131,17 @@ arrives r to d small real c =
     registers false = refl
 
 -- So that line is not left.
-pub not_there : (n : ℕ) (r : ℕ) (to : DataRegister) (d x : Data) → r < 128 → is_zero r ≡ false → Coherent d → leaving n x (move r to d) ≡ true → (n == line_of to.address) ≡ false
+pub not_there : (n : ℕ) (r : ℕ) (to : DataRegister) (d x : Data) → r < 128 → is_zero r ≡ false → Coherent d → leaving n x (move_to r to d) ≡ true → (n == line_of to.address) ≡ false
 not_there n r to d x small real c h = by_place (n == line_of to.address) refl
   where
     by_place : (b : Bool) → (n == line_of to.address) ≡ b → b ≡ false
     by_place false e = refl
     by_place true e =
         let same : n ≡ line_of to.address = grind (arith, nat_tests, e) in
-        let there : named (addresses (move r to d)) n ≡ true = ap (λ k. named (addresses (move r to d)) k) same ∙ arrives r to d small real c in
-        absurd (true≢false (sym h ∙ stayed n x (move r to d) (λ g. there)))
+        let there : named (addresses (move_to r to d)) n ≡ true = ap (λ k. named (addresses (move_to r to d)) k) same ∙ arrives r to d small real c in
+        absurd (true≢false (sym h ∙ stayed n x (move_to r to d) (λ g. there)))
 
--- A move of what keeps addresses and backing copy, and memory too where a line is left.
+-- A move_to of what keeps addresses and backing copy, and memory too where a line is left.
 pub then_goes : (d x after : Data) → Keeps d x → ((n : ℕ) → leaving n d after ≡ true → x.memory n ≡ d.memory n) → Goes x after → Goes d after
 then_goes d x after k same g = record {
   coherent = g.coherent;
