@@ -8,7 +8,7 @@ use Rattle.flat.specs.Instructions.{held, take}
 use Rattle.flat.specs.Operations.{carried_out, data_after}
 use Rattle.flat.specs.Raising.{raised, first, reserved, narrow, even, too_wide, uneven_widths, missing, fixed, by_zero, no_next_line, moves_on, is_taken}
 use Rattle.flat.specs.Registers.{shared, zeros}
-use Rattle.reading.specs.Reading.{operation}
+use Rattle.word.specs.Reading.{operation}
 use Rattle.line.specs.Dividing.{somewhere}
 use Rattle.line.specs.Elements.{bytes, element, number}
 use Rattle.scalar.specs.Casts.{cast, read_bits, residue}
