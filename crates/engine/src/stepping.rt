@@ -190,7 +190,7 @@ pub(crate) fn step_machine<S: Store>(machine: &mut Machine, store: &mut S) -> Af
     if is_interrupted(machine) {
         return enter(machine, Exception::Interrupt, store);
     }
-    match reading::read(word(machine)) {
+    match word::decode(word(machine)) {
         Some(op) => obey(machine, op, store),
         None => enter(machine, Exception::Undefined, store),
     }

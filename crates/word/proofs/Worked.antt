@@ -1,7 +1,9 @@
--- What follows of a reading, and two worked words.
-use Rattle.std.proofs.Common.{◌≡◌, ℕ, pos, Some, None, Option, sym, refl, arith, rules}
+-- What follows of a reading, and worked words.
+use Rattle.std.proofs.Common.{◌≡◌, ℕ, pos, Some, None, Option, map, sym, refl, arith, rules}
 use Rattle.word.specs.Codes.{Codes}
 use Rattle.word.specs.Decodes.{Decodes, Defined}
+use Rattle.word.specs.Reading.{operation}
+use Rattle.word.specs.Worked.{words, answers}
 use Rattle.word.specs.declared.element.ElementType.TheVariants.{S16}
 use Rattle.word.specs.declared.operations.Operation.{Operation}
 use Rattle.word.specs.declared.operations.Operation.TheVariants.{Load}
@@ -30,3 +32,8 @@ undefined_add h = nothing h.0 h.1
 
 pub worked_add : (r : Option Operation) → Decodes 0x00000020 r → r ≡ None
 worked_add r = reads_none 0x00000020 r undefined_add
+
+-- the worked words, computed
+pub worked : map operation words ≡ answers
+unfolding operation
+worked = refl

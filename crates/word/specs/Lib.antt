@@ -5,3 +5,5 @@ pub mod Codes
 pub mod Decodes
 pub mod Lines
 pub mod Texts
+pub mod Reading
+pub mod Worked

@@ -1,8 +1,11 @@
-// Reading a word: `decode` picks by the group. A group with one format and no condition but z = 0 is read
+// Reading a word: `by_group` picks by the group. A group with one format and no condition but z = 0 is read
 // in its arm, and each other group has a function. Each promises `Decodes` for the words of its group,
-// which it requires: a type for the words of one group would be longer than these four clauses.
-ghost use Rattle.std.specs.Prelude.{◌≡◌, ◌/◌, ◌^◌};
+// which it requires: a type for the words of one group would be longer than these four clauses. `decode`
+// promises besides that what is read is what `operation` computes, which follows once for all groups.
+ghost use Rattle.std.specs.Prelude.{◌≡◌, ◌/◌, ◌^◌, map};
 ghost use Rattle.word.specs.Decodes.{Decodes};
+ghost use Rattle.word.specs.Reading.{operation};
+ghost use Rattle.word.specs.Worked.{words, answers};
 
 use crate::fields::*;
 use crate::opcodes::Special;
@@ -75,8 +78,8 @@ fn system(word: u32) -> Option<Operation>
     }
 }
 
-// The operation that a word holds, or None where the word is undefined.
-pub fn decode(word: u32) -> Option<Operation>
+// The operation that a word holds, by the word's group.
+fn by_group(word: u32) -> Option<Operation>
     ensures { Decodes word result }
 {
     let (a, b) = (A.read(word), B.read(word));
@@ -105,4 +108,28 @@ pub fn decode(word: u32) -> Option<Operation>
         (SYSTEM, _) => system(word),
         _ => None,
     }
+}
+
+// The operation that a word holds, or None where the word is undefined: the one that `Codes` has a row
+// for, and the one that `operation` computes.
+#[tactic(auto, using(crate::proofs::Reading::is_operation))]
+pub fn decode(word: u32) -> Option<Operation>
+    ensures decodes { Decodes word result }
+    ensures operation { result ≡ operation word }
+{
+    by_group(word)
+}
+
+// Worked words, each read: the first clause has what `operation` computes, the second what that is.
+#[tactic(auto, using(crate::proofs::Worked::worked))]
+pub fn worked_words() -> [Option<Operation>; 4]
+    ensures operations { result ≡ map operation words }
+    ensures answers { result ≡ answers }
+{
+    [
+        decode(0x0000_000E),
+        decode(0x0000_001E),
+        decode(0x2140_0C83),
+        decode(0x0000_0020),
+    ]
 }

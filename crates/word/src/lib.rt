@@ -17,7 +17,7 @@ mod round_trips;
 mod texts;
 
 pub use coding::code;
-pub use decoding::decode;
+pub use decoding::{decode, worked_words};
 pub use element::ElementType;
 pub use lines::words;
 pub use numbers::UnknownNumber;

@@ -11,10 +11,10 @@ use Rattle.word.specs.declared.opcodes.Form.{Form}
 use Rattle.word.specs.declared.opcodes.Special.{Special}
 use Rattle.word.specs.declared.operations.Operation.{Operation}
 use Rattle.word.specs.declared.operations.Operation.TheVariants.{Arith as Arithmetic, AddAddress, Div, Reduce, Load, Store, Dup, Fetch, JumpNotZero, JumpZero, Hand, CopyOut, CopyIn, Swi, Reti, Retx}
-use Rattle.reading.specs.Reading.{operation}
-use Rattle.reading.proofs.Numbered.{type_listed, arith_listed, reduction_listed, special_listed, form_listed, from_twos_of}
-use Rattle.reading.proofs.Places.{made_has}
-use Rattle.reading.proofs.Rows.{row}
+use Rattle.word.specs.Reading.{operation}
+use Rattle.word.proofs.Numbered.{type_listed, arith_listed, reduction_listed, special_listed, form_listed, from_twos_of}
+use Rattle.word.proofs.Places.{made_has}
+use Rattle.word.proofs.Rows.{row}
 
 -- no arithmetic has the opcode of div
 not_div : (op : Arith) (form : Form) → (arith_number op == 14 + form_number form) ≡ false

@@ -12,7 +12,7 @@ use Rattle.word.specs.declared.opcodes.Reduction.{Reduction}
 use Rattle.word.specs.declared.opcodes.Special.{Special}
 use Rattle.word.specs.declared.opcodes.Form.{Form}
 use Rattle.word.specs.declared.opcodes.Form.TheVariants.{Scalar}
-use Rattle.reading.specs.Reading.{types, ariths, reductions, specials, forms, from_twos}
+use Rattle.word.specs.Reading.{types, ariths, reductions, specials, forms, from_twos}
 
 -- each element has its place as its number, where the first has the place k
 abbrev Numbered : {T : Type 0} → (T → ℕ) → ℕ → List T → Type 0

@@ -4,9 +4,9 @@ use Rattle.word.specs.Codes.{Codes}
 use Rattle.word.specs.Decodes.{Decodes, Found}
 use Rattle.word.specs.declared.operations.Operation.{Operation}
 use Rattle.word.proofs.Worked.{reads_once}
-use Rattle.reading.specs.Reading.{operation}
-use Rattle.reading.proofs.Found.{operation_found}
-use Rattle.reading.proofs.Held.{operation_held}
+use Rattle.word.specs.Reading.{operation}
+use Rattle.word.proofs.Found.{operation_found}
+use Rattle.word.proofs.Held.{operation_held}
 
 -- for every number: one from 2 ^ 32 on holds nothing, and nothing is found in it
 pub operation_decodes : (w : ℕ) → Decodes w (operation w)

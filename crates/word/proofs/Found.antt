@@ -15,10 +15,10 @@ use Rattle.word.specs.declared.opcodes.Reduction.{Reduction}
 use Rattle.word.specs.declared.opcodes.Special.{Special}
 use Rattle.word.specs.declared.operations.Operation.{Operation}
 use Rattle.word.specs.declared.operations.Operation.TheVariants.{Arith as Arithmetic, AddAddress, Div, Reduce, Load, Store, Dup, Fetch, JumpNotZero, JumpZero, Hand, CopyOut, CopyIn, Swi, Reti, Retx}
-use Rattle.reading.specs.Reading.{types, ariths, reductions, specials, forms, from_twos, a, b, c, i, o, z, arithmetic, reduce, dup, fetch, jump, jumps, system, undefined, groups, operation}
-use Rattle.reading.proofs.Numbered.{type_found, arith_found, reduction_found, special_found, form_found, twos_from}
-use Rattle.reading.proofs.Places.{has_made}
-use Rattle.reading.proofs.Rows.{row}
+use Rattle.word.specs.Reading.{types, ariths, reductions, specials, forms, from_twos, a, b, c, i, o, z, arithmetic, reduce, dup, fetch, jump, jumps, system, undefined, groups, operation}
+use Rattle.word.proofs.Numbered.{type_found, arith_found, reduction_found, special_found, form_found, twos_from}
+use Rattle.word.proofs.Places.{has_made}
+use Rattle.word.proofs.Rows.{row}
 
 -- two tests that hold together
 both : (s t : Bool) → (s && t) ≡ true → (s ≡ true) × (t ≡ true)

@@ -1,7 +1,0 @@
-pub mod Numbered
-pub mod Places
-pub mod Rows
-pub mod Found
-pub mod Held
-pub mod Reading
-pub mod Worked
