@@ -10,7 +10,7 @@ use Rattle.file.specs.Machine.{stands}
 use Rattle.file.specs.Standing.{data_of}
 use Rattle.file.specs.declared.machine.Machine.{Machine as File}
 use Rattle.flat.specs.Instructions.{Instruction}
-use Rattle.flat.specs.Machine.{Machine, go, ipc, with_data, with_control}
+use Rattle.flat.specs.Machine.{Machine, take_bus, take_line, ipc, with_data, with_control}
 use Rattle.flat.specs.Operands.{next_address, word_place}
 use Rattle.flat.specs.Data.{Data}
 use Rattle.flat.specs.declared.control.Control.{Control}
@@ -19,11 +19,11 @@ use Rattle.word.specs.declared.opcodes.Arith.{Arith}
 use Rattle.word.specs.declared.opcodes.Form.{Form}
 use Rattle.word.specs.declared.opcodes.Reduction.{Reduction}
 use Rattle.word.specs.declared.opcodes.Special.{Special}
-use Rattle.flat.specs.Operations.{put_at, arithmetic, add_address, divide, data_after, instructions_after, control_after, carried_out, moved_on, sent_by}
+use Rattle.flat.specs.Operations.{put_at, arithmetic, add_address, divide, data_after, instructions_after, control_after, carried_out, moved_on, bus_of, jump_bus, load_bus, next_bus, store_bus}
 use Rattle.flat.specs.Raising.{is_taken, moves_on, uneven, uneven_widths, even}
 
 -- what an operation does to the data registers does not depend on the instruction registers
-data_after_go : (op : Operation) (r a : ℕ) (m : Machine) → data_after op (go r a m) ≡ data_after op m
+data_after_go : (op : Operation) (r a : ℕ) (m : Machine) → data_after op (take_line r a m) ≡ data_after op m
 unfolding data_after arithmetic add_address divide
 data_after_go (Arithmetic op Scalar x y z) r a m = refl
 data_after_go (Arithmetic op Vector x y z) r a m = refl
@@ -44,7 +44,7 @@ data_after_go (CopyOut Swiarg3 x) r a m = refl
 data_after_go op r a m = refl
 
 -- nor does what it does to the rest
-control_after_go : (op : Operation) (r a : ℕ) (m : Machine) → control_after op (go r a m) ≡ control_after op m
+control_after_go : (op : Operation) (r a : ℕ) (m : Machine) → control_after op (take_line r a m) ≡ control_after op m
 unfolding control_after
 control_after_go (CopyIn Ie x) r a m = refl
 control_after_go (CopyIn Xct x) r a m = refl
@@ -54,26 +54,19 @@ control_after_go (CopyIn Swiarg2 x) r a m = refl
 control_after_go (CopyIn Swiarg3 x) r a m = refl
 control_after_go op r a m = refl
 
--- nor which line it sends back
-sent_by_go : (op : Operation) (r a : ℕ) (m : Machine) → sent_by op (go r a m) ≡ sent_by op m
-unfolding sent_by
-sent_by_go (Load kind x y i) r a m = refl
-sent_by_go (Store kind x y i) r a m = refl
-sent_by_go op r a m = refl
-
 -- ipc moved on
 abbrev pub Moved : Machine → Machine → Type 0
-Moved m mid = mid ≡ go (ipc m) (next_address m) m
+Moved m mid = mid ≡ take_line (ipc m) (next_address m) m
 
 module _ (op : Operation) (m mid : Machine) (on : moves_on m op ≡ true) (same : (i : ℕ → Instruction) → instructions_after op m i ≡ i) (moved : Moved m mid) where
-  carried : carried_out op m ≡ record { data_registers = data_after op m; instructions = (go (ipc m) (next_address m) m).instructions; control = control_after op m }
+  carried : carried_out op m ≡ record { data_registers = data_after op m; instructions = (take_line (ipc m) (next_address m) m).instructions; control = control_after op m }
   unfolding carried_out moved_on
   carried =
       ap (λ (i : ℕ → Instruction). let x : Machine = record { data_registers = data_after op m; instructions = i; control = control_after op m } in x)
-      (same (if moves_on m op then go (ipc m) (next_address m) m else m).instructions ∙ ap (λ (b : Bool). (if b then go (ipc m) (next_address m) m else m).instructions) on)
+      (same (if moves_on m op then take_line (ipc m) (next_address m) m else m).instructions ∙ ap (λ (b : Bool). (if b then take_line (ipc m) (next_address m) m else m).instructions) on)
 
   abbrev next : Machine
-  next = go (ipc m) (next_address m) m
+  next = take_line (ipc m) (next_address m) m
 
   -- an operation that moves on and changes the data registers alone
   data_carried : m.control ≡ control_after op m → with_data (data_after op mid) mid ≡ carried_out op m
@@ -153,14 +146,14 @@ retx_carried m = refl
 -- a jump that is taken, where t is true, or moves on
 abbrev taken_with : Machine → ℕ → ℕ → Bool → Machine
 taken_with m b w t =
-    let before : ℕ → Instruction = (if not t then go (ipc m) (next_address m) m else m).instructions in
+    let before : ℕ → Instruction = (if not t then take_line (ipc m) (next_address m) m else m).instructions in
     record { data_registers = m.data_registers; instructions = if t then put_at (ipc m) b w m before else before; control = m.control }
 
-pub jump_nonzero_taken : (m : Machine) (a b w : ℕ) → is_taken m (JumpNotZero a b w) ≡ true → go (ipc m) (word_place m b w) m ≡ carried_out (JumpNotZero a b w) m
+pub jump_nonzero_taken : (m : Machine) (a b w : ℕ) → is_taken m (JumpNotZero a b w) ≡ true → take_line (ipc m) (word_place m b w) m ≡ carried_out (JumpNotZero a b w) m
 unfolding carried_out data_after instructions_after control_after moved_on moves_on is_taken
 jump_nonzero_taken m a b w h = sym (ap (taken_with m b w) h)
 
-pub jump_zero_taken : (m : Machine) (a b w : ℕ) → is_taken m (JumpZero a b w) ≡ true → go (ipc m) (word_place m b w) m ≡ carried_out (JumpZero a b w) m
+pub jump_zero_taken : (m : Machine) (a b w : ℕ) → is_taken m (JumpZero a b w) ≡ true → take_line (ipc m) (word_place m b w) m ≡ carried_out (JumpZero a b w) m
 unfolding carried_out data_after instructions_after control_after moved_on moves_on is_taken
 jump_zero_taken m a b w h = sym (ap (taken_with m b w) h)
 
@@ -172,9 +165,12 @@ pub jump_zero_on : (m mid : Machine) (a b w : ℕ) → is_taken m (JumpZero a b 
 unfolding data_after instructions_after control_after moves_on is_taken
 jump_zero_on m mid a b w h moved = only_moved (JumpZero a b w) m mid (ap not h) (λ i. ap (λ (t : Bool). if t then put_at (ipc m) b w m i else i) h) moved refl refl
 
--- the line that is sent back, seen before ipc moved on
-pub sent_moved : (op : Operation) (m mid : Machine) → Moved m mid → sent_by op mid ≡ sent_by op m
-sent_moved op m mid moved = ap (sent_by op) moved ∙ sent_by_go op (ipc m) (next_address m) m
+-- what load and store do on the bus, seen before ipc moved on
+pub load_bus_moved : (a b : ℕ) (i : ℤ) (m mid : Machine) → Moved m mid → load_bus a b i mid ≡ load_bus a b i m
+load_bus_moved a b i m mid moved = ap (load_bus a b i) moved
+
+pub store_bus_moved : (a b : ℕ) (i : ℤ) (m mid : Machine) → Moved m mid → store_bus a b i mid ≡ store_bus a b i m
+store_bus_moved a b i m mid moved = ap (store_bus a b i) moved
 
 -- widths are those of the data registers, which no move of ipc changes
 uneven_any : (n : Machine) (i : ℕ → Instruction) (fields : List ℕ) → uneven_widths (record { data_registers = n.data_registers; instructions = i; control = n.control }) fields ≡ uneven_widths n fields
@@ -183,7 +179,7 @@ uneven_any n i [] = refl
 uneven_any n i (a ∷ fields) = refl
 
 pub uneven_moved : (op : Operation) (m mid : Machine) → Moved m mid → uneven m op ≡ false → uneven mid op ≡ false
-uneven_moved op m mid moved h = ap (λ (x : Machine). uneven x op) moved ∙ (uneven_any m (go (ipc m) (next_address m) m).instructions (even op) ∙ h)
+uneven_moved op m mid moved h = ap (λ (x : Machine). uneven x op) moved ∙ (uneven_any m (take_line (ipc m) (next_address m) m).instructions (even op) ∙ h)
 
 -- and of a file's registers on every store
 uneven_stores : (f : File) (m other : Meaning) (fields : List ℕ) → uneven_widths (stands f other) fields ≡ uneven_widths (stands f m) fields
@@ -198,15 +194,22 @@ uneven_on_any op f m other h = uneven_stores f m other (even op) ∙ h
 abbrev pub IsJump : Operation → ℕ → ℕ → Type 0
 IsJump op b w = ((a : ℕ) × (op ≡ JumpNotZero a b w)) ⊎ ((a : ℕ) × (op ≡ JumpZero a b w))
 
-pub jump_taken : (op : Operation) (m : Machine) (b w : ℕ) → IsJump op b w → is_taken m op ≡ true → go (ipc m) (word_place m b w) m ≡ carried_out op m
-jump_taken op m b w (inl s) = subst (λ (o : Operation). is_taken m o ≡ true → go (ipc m) (word_place m b w) m ≡ carried_out o m) (sym s.1) (jump_nonzero_taken m s.0 b w)
-jump_taken op m b w (inr s) = subst (λ (o : Operation). is_taken m o ≡ true → go (ipc m) (word_place m b w) m ≡ carried_out o m) (sym s.1) (jump_zero_taken m s.0 b w)
+pub jump_taken : (op : Operation) (m : Machine) (b w : ℕ) → IsJump op b w → is_taken m op ≡ true → take_line (ipc m) (word_place m b w) m ≡ carried_out op m
+jump_taken op m b w (inl s) = subst (λ (o : Operation). is_taken m o ≡ true → take_line (ipc m) (word_place m b w) m ≡ carried_out o m) (sym s.1) (jump_nonzero_taken m s.0 b w)
+jump_taken op m b w (inr s) = subst (λ (o : Operation). is_taken m o ≡ true → take_line (ipc m) (word_place m b w) m ≡ carried_out o m) (sym s.1) (jump_zero_taken m s.0 b w)
 
 pub jump_on : (op : Operation) (m mid : Machine) (b w : ℕ) → IsJump op b w → is_taken m op ≡ false → Moved m mid → mid ≡ carried_out op m
 jump_on op m mid b w (inl s) = subst (λ (o : Operation). is_taken m o ≡ false → Moved m mid → mid ≡ carried_out o m) (sym s.1) (jump_nonzero_on m mid s.0 b w)
 jump_on op m mid b w (inr s) = subst (λ (o : Operation). is_taken m o ≡ false → Moved m mid → mid ≡ carried_out o m) (sym s.1) (jump_zero_on m mid s.0 b w)
 
-pub jump_sends : (op : Operation) (m : Machine) (b w : ℕ) → IsJump op b w → None ≡ sent_by op m
-unfolding sent_by
-jump_sends op m b w (inl s) = sym (ap (λ (o : Operation). sent_by o m) s.1)
-jump_sends op m b w (inr s) = sym (ap (λ (o : Operation). sent_by o m) s.1)
+jump_bus_of : (op : Operation) (m : Machine) (b w : ℕ) → IsJump op b w → jump_bus (is_taken m op) b w m ≡ bus_of op m
+unfolding bus_of
+jump_bus_of op m b w (inl s) = ap (λ (o : Operation). jump_bus (is_taken m o) b w m) s.1 ∙ sym (ap (λ (o : Operation). bus_of o m) s.1)
+jump_bus_of op m b w (inr s) = ap (λ (o : Operation). jump_bus (is_taken m o) b w m) s.1 ∙ sym (ap (λ (o : Operation). bus_of o m) s.1)
+
+-- what a jump does on the bus, taken or not
+pub jump_taken_bus : (op : Operation) (m : Machine) (b w : ℕ) → IsJump op b w → is_taken m op ≡ true → take_bus (ipc m) (word_place m b w) m ≡ bus_of op m
+jump_taken_bus op m b w jump h = ap (λ (t : Bool). jump_bus t b w m) (sym h) ∙ jump_bus_of op m b w jump
+
+pub jump_on_bus : (op : Operation) (m : Machine) (b w : ℕ) → IsJump op b w → is_taken m op ≡ false → next_bus m ≡ bus_of op m
+jump_on_bus op m b w jump h = ap (λ (t : Bool). jump_bus t b w m) (sym h) ∙ jump_bus_of op m b w jump

@@ -4,12 +4,9 @@ use Rattle.std.specs.Option.{option_or}
 use Rattle.word.specs.declared.operations.Operation.{Operation}
 use Rattle.word.specs.declared.operations.Operation.TheVariants.{Swi}
 use Rattle.flat.specs.Machine.{Machine}
-use Rattle.flat.specs.Operations.{carried_out, sent_by}
 use Rattle.flat.specs.Raising.{raised, first, uneven}
-use Rattle.flat.specs.Step.{does, enters}
+use Rattle.flat.specs.Step.{does, done, done_and_entered}
 use Rattle.flat.specs.declared.exception.Exception.{Exception}
-use Rattle.flat.specs.declared.exception.Exception.TheVariants.{Software}
-use Rattle.flat.specs.declared.exception.Stepped.TheVariants.{Done}
 
 -- what is carried out was not uneven
 not_uneven : (f : Option Exception) (t u : Bool) (x y : Exception) (rest : List (Bool × Exception)) → option_or f (first ((t, x) ∷ (u, y) ∷ rest)) ≡ None → u ≡ false
@@ -24,13 +21,13 @@ unfolding raised
 raised_even m op h = not_uneven _ _ _ _ _ _ h
 
 -- an operation other than swi is done
-pub does_other : (op : Operation) (m : Machine) → ((a b c d : ℕ) → op ≢ Swi a b c d) → does op m ≡ record { machine = carried_out op m; answer = Done; sent = sent_by op m }
+pub does_other : (op : Operation) (m : Machine) → ((a b c d : ℕ) → op ≢ Swi a b c d) → does op m ≡ done op m
 unfolding does
 does_other (Swi a b c d) m h = absurd (h a b c d refl)
 does_other op m h = refl
 
 -- and swi enters its exception
-pub does_swi : (m : Machine) (a b c d : ℕ) → does (Swi a b c d) m ≡ enters Software (carried_out (Swi a b c d) m)
+pub does_swi : (m : Machine) (a b c d : ℕ) → does (Swi a b c d) m ≡ done_and_entered (Swi a b c d) m
 unfolding does
 does_swi m a b c d = refl
 

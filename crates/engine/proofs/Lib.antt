@@ -1,12 +1,10 @@
 pub mod Carried
 pub mod Doing
 pub mod Lines
-pub mod Loops
 pub mod OperandAddresses
 pub mod Quotients
 pub mod Raises
 pub mod Records
 pub mod Residues
-pub mod Types
 pub mod VectorForms
 pub mod Vectors

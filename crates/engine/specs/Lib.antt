@@ -2,4 +2,3 @@ pub mod Arithmetic
 pub mod Entering
 pub mod Fetching
 pub mod Lengths
-pub mod Running

@@ -5,18 +5,16 @@ ghost use Rattle.word.specs.declared.operations.Operation.TheVariants.{Load, Sto
 ghost use Rattle.line.specs.Elements.{put as replaced};
 ghost use Rattle.line.specs.Places.{element_number};
 ghost use Rattle.line.specs.Vectors.{filled};
-ghost use Rattle.flat.specs.Data.{write, write_element};
 ghost use Rattle.flat.specs.Machine.{with_data};
-ghost use Rattle.flat.specs.Operations.{data_after, sent_by, retype, swiarg};
-ghost use Rattle.file.specs.Data.{stands as data_side};
+ghost use Rattle.flat.specs.Operations.{data_after, load_bus, store_bus, swiarg};
 ghost use Rattle.file.specs.Machine.{stands};
 
 use crate::changes::{put_element, put_line};
 use crate::operands::{element, register, target};
-use file::{DataRegisters, Machine};
-use flat::{Control, DataRegister};
+use file::Machine;
+use flat::{Bus, Control, DataRegister};
 use store::Store;
-use tags::{Change, Register};
+use tags::Change;
 use word::{ElementType, Special};
 
 // A number is written, cast, to every element.
@@ -38,22 +36,8 @@ impl Change for Filled {
     ghost whole = { λ s b h. filled_whole s.kind s.z };
 }
 
-// Gives a register another type. Its line stays.
-#[tactic(auto, using(crate::proofs::Types::moved_there))]
-fn retype<S: Store>(
-    registers: &mut DataRegisters,
-    register: Register,
-    kind: ElementType,
-    store: &mut S,
-)
-    ensures { data_side registers.new (S.meaning store.new) ≡ retype register.number kind (data_side registers.old (S.meaning store.old)) }
-{
-    let address = registers.register(register).address;
-    registers.go(register, DataRegister { address, kind }, store);
-}
-
-// Puts a data register at an address, with a type, and answers the line that was sent back, if any.
-#[tactic(auto, unfolding(file::specs::Machine::stands, flat::specs::Operations::data_after, flat::specs::Operations::sent_by))]
+// Puts a data register at an address, with a type, and answers what that did on the bus.
+#[tactic(auto, unfolding(file::specs::Machine::stands, flat::specs::Operations::data_after))]
 pub(crate) fn load<S: Store>(
     machine: &mut Machine,
     kind: ElementType,
@@ -61,27 +45,24 @@ pub(crate) fn load<S: Store>(
     b: u8,
     i: i16,
     store: &mut S,
-) -> Option<u32>
+) -> Bus
     ensures data { stands machine.new (S.meaning store.new) ≡ with_data (data_after (Load kind a b i) (stands machine.old (S.meaning store.old))) (stands machine.old (S.meaning store.old)) }
-    ensures sent { result ≡ sent_by (Load kind a b i) (stands machine.old (S.meaning store.old)) }
+    ensures bus { result ≡ load_bus a b i (stands machine.old (S.meaning store.old)) }
 {
-    let to = DataRegister {
-        address: target(machine, b, i),
-        kind,
-    };
+    let to = DataRegister::loaded(kind, target(machine, b, i));
     let register = register(machine, a);
-    machine.registers.go(register, to, store)
+    machine.registers.move_to(register, to, store)
 }
 
 // Fills a register's line with an element, cast to a type, and gives it the type.
 #[tactic(auto, unfolding(file::specs::Machine::stands, flat::specs::Operations::data_after))]
-pub(crate) fn dup<S: Store>(machine: &mut Machine, kind: ElementType, a: u8, b: u8, store: &mut S)
-    ensures { stands machine.new (S.meaning store.new) ≡ with_data (data_after (Dup kind a b) (stands machine.old (S.meaning store.old))) (stands machine.old (S.meaning store.old)) }
+pub(crate) fn dup(machine: &mut Machine, kind: ElementType, a: u8, b: u8)
+    ensures { stands machine.new ≡ (λ m. with_data (data_after (Dup kind a b) (stands machine.old m)) (stands machine.old m)) }
 {
     let z = element(machine, b);
     let register = register(machine, a);
     machine.registers.write(register, &Filled { kind, z });
-    retype(&mut machine.registers, register, kind, store);
+    machine.registers.retype(register, kind);
 }
 
 // One of the four swiargs.
@@ -109,9 +90,9 @@ pub(crate) fn copy_out(machine: &mut Machine, from: Special, a: u8)
     }
 }
 
-// Copies a register's line onto the line of an address, puts the register there, with a type, and answers
-// the line that was sent back, if any.
-#[tactic(auto, unfolding(file::specs::Machine::stands, flat::specs::Operations::data_after, flat::specs::Operations::sent_by))]
+// Puts a data register at an address, with a type, takes its line along, and answers what that did on the
+// bus.
+#[tactic(auto, unfolding(file::specs::Machine::stands, flat::specs::Operations::data_after))]
 pub(crate) fn store<S: Store>(
     machine: &mut Machine,
     kind: ElementType,
@@ -119,13 +100,11 @@ pub(crate) fn store<S: Store>(
     b: u8,
     i: i16,
     store: &mut S,
-) -> Option<u32>
+) -> Bus
     ensures data { stands machine.new (S.meaning store.new) ≡ with_data (data_after (StoreOp kind a b i) (stands machine.old (S.meaning store.old))) (stands machine.old (S.meaning store.old)) }
-    ensures sent { result ≡ sent_by (StoreOp kind a b i) (stands machine.old (S.meaning store.old)) }
+    ensures bus { result ≡ store_bus a b i (stands machine.old (S.meaning store.old)) }
 {
-    let address = target(machine, b, i);
+    let to = DataRegister::loaded(kind, target(machine, b, i));
     let register = register(machine, a);
-    machine
-        .registers
-        .carry(register, DataRegister { address, kind }, store)
+    machine.registers.carry(register, to, store)
 }

@@ -1,6 +1,6 @@
-// The engine: step and run over a file and a store. Each operation is carried out on the registers with
-// their tags by the contracts of the layers below, and a step is proved to be the flat machine's. It uses
-// the file, the flat machine's definitions, words and their reading, lines, arithmetic and stores.
+// The engine: one step of a machine. Each operation is carried out on the registers with their tags by the
+// contracts of the layers below, and a step is proved to be the flat machine's. It uses the machine of
+// `file`, the flat machine's definitions, words, lines, arithmetic and stores.
 #![tactic(auto)]
 
 mod arithmetic;
@@ -13,8 +13,7 @@ mod operands;
 mod raising;
 mod recording;
 mod rules;
-mod running;
 mod stepping;
 
 pub use recording::{Recorded, step_recorded};
-pub use running::{MOST_STEPS, has_entered, run, step};
+pub use stepping::{AfterStep, step};

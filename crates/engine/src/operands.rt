@@ -12,6 +12,7 @@ ghost use Rattle.file.specs.Machine.{stands};
 
 use crate::changes::element as shown_element;
 use file::Machine;
+use flat::line_of;
 use line::Place;
 use tags::Register;
 use word::ElementType;
@@ -98,7 +99,7 @@ pub(crate) fn word_place(machine: &Machine, b: u8, w: u8) -> u32
     ensures { (m : Meaning) → result ≡ word_place (stands machine.now m) b w }
 {
     let start = machine.instructions.address(register(machine, b));
-    start / 128 * 128 + 4 * (u32::from(w) % 32)
+    128 * line_of(start) + 4 * (u32::from(w) % 32)
 }
 
 // The next word is 4 bytes further.

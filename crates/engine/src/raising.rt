@@ -1,6 +1,6 @@
 // Which exception the machine enters instead of carrying out an operation. Each test has the name of the
 // flat machine's definition.
-ghost use Rattle.std.specs.Prelude.{◌≡◌, ℕ, ◌+◌, ◌%◌, ◌==◌, ◌&&◌, not, nat_lt};
+ghost use Rattle.std.specs.Prelude.{◌≡◌, ℕ, ◌+◌, ◌==◌, ◌&&◌, not, nat_lt};
 ghost use Rattle.word.specs.Types.{width};
 ghost use Rattle.line.specs.Dividing.{somewhere};
 ghost use Rattle.store.specs.Meaning.{Meaning};
@@ -11,7 +11,7 @@ ghost use Rattle.flat.specs.Operands.{next_address as flat_next_address};
 ghost use Rattle.flat.specs.Raising.{narrow_fields, even_fields, some_wide, uneven_widths, is_missing, needs_missing, own_fixed, some_fixed, is_zero_divisor, leaves, is_taken, goes_on, raised};
 ghost use Rattle.flat.specs.declared.rules.Divisor.TheVariants.{Cast};
 ghost use Rattle.word.specs.declared.opcodes.Form.TheVariants.{Vector};
-ghost use Rattle.flat.specs.Registers.{line_of, named};
+ghost use Rattle.flat.specs.Registers.{line_of as flat_line_of, named, offset_of as flat_offset_of};
 ghost use Rattle.flat.specs.Registers.{is_zero as is_zero_register};
 ghost use Rattle.file.specs.Machine.{stands};
 
@@ -20,7 +20,9 @@ use crate::operands::{
 };
 use crate::rules::rules_of;
 use file::Machine;
-use flat::{Divisor, Even, Exception, Goes, Mode, Narrow, Needs, Writes};
+use flat::{
+    Divisor, Even, Exception, Goes, Mode, Narrow, Needs, Writes, line_of, offset_of,
+};
 use line::{has_zero, same_width};
 use scalar::is_zero;
 use store::Store;
@@ -103,9 +105,9 @@ fn needs_missing<S: Store>(machine: &Machine, needs: Needs, store: &S) -> bool
 
 // Whether the line of an address is not below the store's size.
 fn is_missing<S: Store>(address: u32, store: &S) -> bool
-    ensures { result ≡ not (nat_lt (line_of address) (S.meaning store.now).size) }
+    ensures { result ≡ not (nat_lt (flat_line_of address) (S.meaning store.now).size) }
 {
-    address / 128 >= store.size()
+    line_of(address) >= store.size()
 }
 
 // Whether one of the lines that a fetch takes is missing.
@@ -134,7 +136,7 @@ fn own_fixed<S: Store>(machine: &Machine, field: u8, store: &S) -> bool
 {
     writes_fixed(
         register(machine, field),
-        address(machine, field) / 128,
+        line_of(address(machine, field)),
         store,
     )
 }
@@ -150,7 +152,7 @@ fn some_fixed<S: Store>(machine: &Machine, writes: Writes, store: &S) -> bool
         Writes::Own(a) => own_fixed(machine, a, store),
         Writes::Both(a, d) => own_fixed(machine, a, store) || own_fixed(machine, d, store),
         Writes::There { a, b, i } => {
-            writes_fixed(register(machine, a), target(machine, b, i) / 128, store)
+            writes_fixed(register(machine, a), line_of(target(machine, b, i)), store)
         }
     }
 }
@@ -219,11 +221,11 @@ fn is_named(machine: &Machine, line: u32) -> bool
 // ipc would pass word 31, and no instruction register names the next line.
 #[inline(always)]
 fn passes_line(machine: &Machine, goes: Goes) -> bool
-    ensures { (m : Meaning) → let f = stands machine.now m in result ≡ (goes_on f goes && (flat_ipc_address f % 128 == 124) && not (named (addresses f.instructions) (line_of (flat_next_address f)))) }
+    ensures { (m : Meaning) → let f = stands machine.now m in result ≡ (goes_on f goes && (flat_offset_of (flat_ipc_address f) == 124) && not (named (addresses f.instructions) (flat_line_of (flat_next_address f)))) }
 {
-    ipc_address(machine) % 128 == 124
+    offset_of(ipc_address(machine)) == 124
         && goes_on(machine, goes)
-        && !is_named(machine, next_address(machine) / 128)
+        && !is_named(machine, line_of(next_address(machine)))
 }
 
 // The first exception that applies.

@@ -1,6 +1,6 @@
 // One step of the machine.
 ghost use Rattle.std.specs.Prelude.{◌≡◌, false, Some};
-ghost use Rattle.flat.specs.Operations.{carried_out, sent_by};
+ghost use Rattle.flat.specs.Operations.{bus_of, carried_out};
 ghost use Rattle.flat.specs.Raising.{uneven};
 ghost use Rattle.flat.specs.Step.{does, enters, interrupted, obeyed, step};
 ghost use Rattle.store.specs.Meaning.{Meaning};
@@ -14,89 +14,102 @@ use crate::dividing::divide;
 use crate::fetching::{fetch, hand, jump, move_on, word};
 use crate::raising::{is_taken, raised};
 use file::Machine;
-use flat::{Exception, Mode, Stepped};
+use flat::{Bus, Exception, Mode, Stepped};
 use store::Store;
-use word::Operation;
+use word::{Operation, decode};
 
-// What a step answers, and the line that it sent back, if any.
-#[derive(Clone, Copy)]
-pub(crate) struct AfterStep {
-    pub(crate) answer: Stepped,
-    pub(crate) sent: Option<u32>,
+// What a step answers, and what it did on the bus.
+#[derive(Clone, Copy, PartialEq, Eq, Debug)]
+pub struct AfterStep {
+    pub answer: Stepped,
+    pub bus: Bus,
 }
 
-// Carries out an operation that raises no exception, and answers the line that was sent back, if any. ipc
-// moves on first, where it does; what jumps and hand read of it is read before.
+// Carries out an operation that raises no exception, and answers what that did on the bus. ipc moves on
+// first, where it does; what jumps and hand read of it is read before.
 #[inline(always)]
-fn carry_out<S: Store>(machine: &mut Machine, op: Operation, store: &mut S) -> Option<u32>
+fn carry_out<S: Store>(machine: &mut Machine, op: Operation, store: &mut S) -> Bus
     requires { uneven (stands machine.old (S.meaning store.old)) op ≡ false }
     ensures machine { stands machine.new (S.meaning store.new) ≡ carried_out op (stands machine.old (S.meaning store.old)) }
-    ensures sent { result ≡ sent_by op (stands machine.old (S.meaning store.old)) }
+    ensures bus { result ≡ bus_of op (stands machine.old (S.meaning store.old)) }
 {
     match op {
         Operation::Arith { op, form, a, b, c } => {
-            move_on(machine, store);
+            let bus = move_on(machine, store);
             arithmetic(machine, op, form, a, b, c);
+            bus
         }
         Operation::AddAddress { form, a, b, c } => {
-            move_on(machine, store);
+            let bus = move_on(machine, store);
             add_address(machine, form, a, b, c);
+            bus
         }
         Operation::Div { form, a, b, c, d } => {
-            move_on(machine, store);
+            let bus = move_on(machine, store);
             divide(machine, form, a, b, c, d);
+            bus
         }
         Operation::Reduce { op, a, b } => {
-            move_on(machine, store);
+            let bus = move_on(machine, store);
             reduce(machine, op, a, b);
+            bus
         }
         Operation::Load { kind, a, b, i } => {
-            move_on(machine, store);
-            return load(machine, kind, a, b, i, store);
+            let bus = move_on(machine, store);
+            bus.followed_by(load(machine, kind, a, b, i, store))
         }
         Operation::Store { kind, a, b, i } => {
-            move_on(machine, store);
-            return store_line(machine, kind, a, b, i, store);
+            let bus = move_on(machine, store);
+            bus.followed_by(store_line(machine, kind, a, b, i, store))
         }
         Operation::Dup { kind, a, b } => {
-            move_on(machine, store);
-            dup(machine, kind, a, b, store);
+            let bus = move_on(machine, store);
+            dup(machine, kind, a, b);
+            bus
         }
         Operation::Fetch { a, b, i, j } => fetch(machine, a, b, i, j, store),
         Operation::JumpNotZero { b, w, .. } | Operation::JumpZero { b, w, .. } => {
             if is_taken(machine, op) {
-                jump(machine, b, w, store);
+                jump(machine, b, w, store)
             } else {
-                move_on(machine, store);
+                move_on(machine, store)
             }
         }
         Operation::Hand { b, w } => hand(machine, b, w, store),
         Operation::CopyOut { from, a } => {
-            move_on(machine, store);
+            let bus = move_on(machine, store);
             copy_out(machine, from, a);
+            bus
         }
         Operation::CopyIn { to, a } => {
-            move_on(machine, store);
+            let bus = move_on(machine, store);
             copy_in(machine, to, a);
+            bus
         }
         Operation::Swi { a, b, c, d } => {
-            move_on(machine, store);
+            let bus = move_on(machine, store);
             swi(machine, a, b, c, d);
+            bus
         }
-        Operation::Reti => reti(machine),
-        Operation::Retx => retx(machine),
+        Operation::Reti => {
+            reti(machine);
+            Bus::quiet()
+        }
+        Operation::Retx => {
+            retx(machine);
+            Bus::quiet()
+        }
     }
-    None
 }
 
 // Enters an exception, and does nothing more.
 fn enter<S: Store>(machine: &mut Machine, exception: Exception, store: &S) -> AfterStep
     ensures { Did (enters exception (stands machine.old (S.meaning store.now))) (stands machine.new (S.meaning store.now)) result }
 {
-    machine.enter(exception, store);
+    let bus = machine.enter(exception, store);
     AfterStep {
         answer: Stepped::Entered(exception),
-        sent: None,
+        bus,
     }
 }
 
@@ -107,9 +120,15 @@ fn do_operation<S: Store>(machine: &mut Machine, op: Operation, store: &mut S) -
     requires { uneven (stands machine.old (S.meaning store.old)) op ≡ false }
     ensures { Did (does op (stands machine.old (S.meaning store.old))) (stands machine.new (S.meaning store.new)) result }
 {
-    let sent = carry_out(machine, op, store);
+    let bus = carry_out(machine, op, store);
     match op {
-        Operation::Swi { .. } => enter(machine, Exception::Software, store),
+        Operation::Swi { .. } => {
+            let entered = enter(machine, Exception::Software, store);
+            AfterStep {
+                answer: entered.answer,
+                bus: bus.followed_by(entered.bus),
+            }
+        }
         Operation::Arith { .. }
         | Operation::AddAddress { .. }
         | Operation::Div { .. }
@@ -126,7 +145,7 @@ fn do_operation<S: Store>(machine: &mut Machine, op: Operation, store: &mut S) -
         | Operation::Reti
         | Operation::Retx => AfterStep {
             answer: Stepped::Done,
-            sent,
+            bus,
         },
     }
 }
@@ -167,7 +186,16 @@ fn obey<S: Store>(machine: &mut Machine, op: Operation, store: &mut S) -> AfterS
         Operation::JumpZero { a, b, w } => {
             obey_as(machine, Operation::JumpZero { a, b, w }, store)
         }
-        _ => obey_as(machine, op, store),
+        Operation::AddAddress { .. }
+        | Operation::Div { .. }
+        | Operation::Reduce { .. }
+        | Operation::Fetch { .. }
+        | Operation::Hand { .. }
+        | Operation::CopyOut { .. }
+        | Operation::CopyIn { .. }
+        | Operation::Swi { .. }
+        | Operation::Reti
+        | Operation::Retx => obey_as(machine, op, store),
     }
 }
 
@@ -184,13 +212,13 @@ fn is_interrupted(machine: &Machine) -> bool
 
 // A step: the interrupt, or else the word at ipc.
 #[tactic(auto, unfolding(flat::specs::Step::step, flat::specs::Step::obeyed))]
-pub(crate) fn step_machine<S: Store>(machine: &mut Machine, store: &mut S) -> AfterStep
+pub fn step<S: Store>(machine: &mut Machine, store: &mut S) -> AfterStep
     ensures { Did (step (stands machine.old (S.meaning store.old))) (stands machine.new (S.meaning store.new)) result }
 {
     if is_interrupted(machine) {
         return enter(machine, Exception::Interrupt, store);
     }
-    match word::decode(word(machine)) {
+    match decode(word(machine)) {
         Some(op) => obey(machine, op, store),
         None => enter(machine, Exception::Undefined, store),
     }

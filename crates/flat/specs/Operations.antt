@@ -159,14 +159,21 @@ next_bus m = take_bus (ipc m) (next_address m) m
 abbrev pub jump_bus : Bool → ℕ → ℕ → Machine → Bus
 jump_bus taken b w m = if taken then take_bus (ipc m) (word_place m b w) m else next_bus m
 
+-- Load and store move a data register, store with its line.
+abbrev pub load_bus : ℕ → ℕ → ℤ → Machine → Bus
+load_bus a b i m = move_bus (reg m a) (target m b i) m.data_registers
+
+abbrev pub store_bus : ℕ → ℕ → ℤ → Machine → Bus
+store_bus a b i m = carry_bus (reg m a) (target m b i) m.data_registers
+
 -- What an operation does on the bus.
 unfoldable pub bus_of : Operation → Machine → Bus
 bus_of (Arithmetic op form a b c) m = next_bus m
 bus_of (AddAddress form a b c) m = next_bus m
 bus_of (Div form a b c d) m = next_bus m
 bus_of (Reduce op a b) m = next_bus m
-bus_of (Load kind a b i) m = followed_by (next_bus m) (move_bus (reg m a) (target m b i) m.data_registers)
-bus_of (Store kind a b i) m = followed_by (next_bus m) (carry_bus (reg m a) (target m b i) m.data_registers)
+bus_of (Load kind a b i) m = followed_by (next_bus m) (load_bus a b i m)
+bus_of (Store kind a b i) m = followed_by (next_bus m) (store_bus a b i m)
 bus_of (Dup kind a b) m = next_bus m
 bus_of (Fetch a b i j) m = followed_by (next_bus m) (fetched_bus a b i m (moved_on (Fetch a b i j) m) (suc j))
 bus_of (JumpNotZero a b w) m = jump_bus (is_taken m (JumpNotZero a b w)) b w m
