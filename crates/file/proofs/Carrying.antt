@@ -3,8 +3,7 @@ use Rattle.std.proofs.Common.{◌≡◌, ℕ, ◌/◌, ◌<◌, Bool, true, fals
 use Rattle.std.proofs.Math.Path.{fun_ext}
 use Rattle.std.proofs.lemmas.Bool.{cond-true, cond-false}
 use Rattle.std.proofs.lemmas.Bool.Decides.{nat_tests}
-use Rattle.flat.specs.Data.{Data, given, accepted, shown, written, write, sent_back, left, let_go, leaves, line, placed, move}
-use Rattle.flat.specs.Operations.{copied}
+use Rattle.flat.specs.Data.{Data, given, accepted, shown, written, write, sent_back, left, let_go, leaves, line, placed, move_to, copied}
 use Rattle.flat.specs.Registers.{at, is_zero, line_of}
 use Rattle.flat.specs.declared.registers.DataRegister.{DataRegister}
 use Rattle.tags.specs.Names.{Names, Sound, Goes, gone, tag_of}
@@ -68,20 +67,20 @@ module _ (d : Data) (r : ℕ) (to : DataRegister) (real : is_zero r ≡ false) w
   unfolding copied
   copied_real = cond-false _ _ _ real
 
-  move_real : (x : Data) → move r to x ≡ placed r to (if leaves r to.address x then left (line x r) x else x)
-  unfolding move
+  move_real : (x : Data) → move_to r to x ≡ placed r to (if leaves r to.address x then left (line x r) x else x)
+  unfolding move_to
   move_real x = cond-false _ _ _ real
 
   write_real : (x : Data) → write r (shown d r) x ≡ written (line x r) (shown d r) x
   unfolding write
   write_real x = cond-false _ _ _ real
 
-  pub carried : move r to (copied r to.address d) ≡ write r (shown d r) (move r to d)
+  pub carried : move_to r to (copied r to.address d) ≡ write r (shown d r) (move_to r to d)
   carried =
-      ap (move r to) copied_real
+      ap (move_to r to) copied_real
       ∙ (move_real (written (line_of to.address) (shown d r) d)
       ∙ (carried_by (leaves r to.address d) refl
-      ∙ sym (write_real (move r to d)
+      ∙ sym (write_real (move_to r to d)
       ∙ (ap (λ (x : Data). written (line x r) (shown d r) x) (move_real d)
       ∙ ap (λ (n : ℕ). written n (shown d r) (placed r to (if leaves r to.address d then left (line d r) d else d))) (moved_line (leaves r to.address d))))))
 
@@ -98,6 +97,6 @@ kept_bytes s after r a bs within real sound goes = ap (λ (x : Names). x.bytes (
     by_tag (Some t) h = grind (arith, nat_tests, real, h)
 
 -- a zero register neither copies nor moves
-pub carried_zero : (d : Data) (r : ℕ) (to : DataRegister) → is_zero r ≡ true → d ≡ move r to (copied r to.address d)
-unfolding move copied
+pub carried_zero : (d : Data) (r : ℕ) (to : DataRegister) → is_zero r ≡ true → d ≡ move_to r to (copied r to.address d)
+unfolding move_to copied
 carried_zero d r to h = sym (cond-true _ _ _ h ∙ cond-true _ _ _ h)

@@ -1,12 +1,12 @@
 -- What taking a line does to what the instruction registers stand for.
 use Rattle.std.proofs.Common.{◌≡◌, ◌≤◌, ℕ, zero, suc, ◌<◌, Bool, true, false, ◌==◌, if◌then◌else◌, List, Some, None, Option, refl, sym, ap, ◌∙◌, arith}
 use Rattle.std.proofs.Math.Path.{fun_ext}
-use Rattle.std.proofs.lemmas.Bool.{cond-false, true≢false, cases_eq}
+use Rattle.std.proofs.lemmas.Bool.{cond-false, true≢false}
 use Rattle.std.proofs.lemmas.Bool.Decides.{nat_tests}
 use Rattle.std.specs.Option.{option_or, option_map, unwrap_or}
 use Rattle.flat.specs.Instructions.{held, take}
 use Rattle.flat.specs.Registers.{zeros, at, is_zero, is_real, line_of, names, shared}
-use Rattle.line.specs.Dividing.{somewhere}
+use Rattle.flat.proofs.Somewhere.{some_decides}
 use Rattle.tags.specs.Names.{Names, Unused, gone, tag_of}
 use Rattle.file.specs.Standing.{instructions_of, of_tag}
 
@@ -89,16 +89,10 @@ module _ (s : Names) (n : ℕ) where
     pub held_tag : held (instructions_of s) n 128 ≡ option_map s.bytes (s.tag n)
     held_tag = held_is (s.tag n) refl (held (instructions_of s) n 128) refl
 
--- what holds at a place below n holds somewhere
-some_at : (n : ℕ) (test : ℕ → Bool) (q : ℕ) → q < n → test q ≡ true → somewhere test n ≡ true
-unfolding somewhere
-some_at zero test q l e = grind (arith, l)
-some_at (suc n) test q l e = grind (arith, nat_tests, cases_eq q n, some_at n test q, l, e)
-
 -- another register than r that names r's line shares it
 shares : (s : Names) (q r : ℕ) → is_real q ≡ true → (q == r) ≡ false → (line_of (s.address q) == line_of (s.address r)) ≡ true → shared s.address r ≡ true
 unfolding shared
-shares s q r real other same = some_at 128 _ q (grind (arith, nat_tests, real)) (grind (arith, nat_tests, real, other, same))
+shares s q r real other same = (some_decides 128 _).1 (q, grind (arith, nat_tests, real), grind (arith, nat_tests, real, other, same))
 
 -- register r takes the line of an address
 module _ (s : Names) (r u a : ℕ) (memory : ℕ → List ℕ) (within : r < 128) (real : is_zero r ≡ false) (linked : Linked s) (used : Used s) (fresh : s.tag (line_of a) ≡ None → Unused s u) where

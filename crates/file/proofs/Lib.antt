@@ -6,6 +6,5 @@ pub mod Starting
 pub mod Writing
 pub mod Sending
 pub mod Taking
-pub mod Ending
 pub mod Handing
 pub mod Carrying

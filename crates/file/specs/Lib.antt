@@ -4,4 +4,3 @@ pub mod Data
 pub mod Backing
 pub mod Instructions
 pub mod Machine
-pub mod Files

@@ -7,7 +7,7 @@ ghost use Rattle.tags.specs.Meaning.{names};
 ghost use Rattle.file.specs.Standing.{Quiet};
 
 use crate::backing::{Backing, give, send, zeros};
-use flat::DataRegister;
+use flat::{Bus, DataRegister, line_of};
 use marks::Marks;
 use store::Store;
 use tags::{Bank, Change, Register, Tag};
@@ -25,8 +25,7 @@ pub struct DataRegisters {
 impl DataRegisters {
     ghost use Rattle.std.specs.Prelude.{◌&&◌, true, false, ◌/◌, Some, option_map, get_or};
     ghost use Rattle.flat.specs.Calls.{started_data, touched_lines};
-    ghost use Rattle.flat.specs.Operations.{copied};
-    ghost use Rattle.flat.specs.Data.{leaves, move, sent, sent_back, shown, write, flushed, handed};
+    ghost use Rattle.flat.specs.Data.{carry, carry_bus, flushed, handed, leaves, move_bus, move_to, retype, sent, sent_back, shown, write};
     ghost use Rattle.flat.specs.Registers.{is_zero};
     ghost use Rattle.marks.specs.Marks.{with_mark};
     ghost use Rattle.tags.specs.Names.{tag_of};
@@ -131,7 +130,7 @@ impl DataRegisters {
         ensures { result ≡ (leaves_line (names self.now.bank) register.number address && marked self.now.marks (tag_of (names self.now.bank) register.number)) }
     {
         let leaves = self.bank.is_last(register)
-            && self.bank.address(register) / 128 != address / 128;
+            && line_of(self.bank.address(register)) != line_of(address);
         leaves && self.marks.contains(self.tag(register).number())
     }
 
@@ -149,20 +148,20 @@ impl DataRegisters {
         if !self.sends(register, address) {
             return None;
         }
-        let line = self.bank.address(register) / 128;
+        let line = line_of(self.bank.address(register));
         let tag = self.tag(register);
         self.send_back(tag, line, store);
         Some(line)
     }
 
-    // Moves a register, as `go` promises. The bytes of the tag that it carried are still there.
+    // Moves a register, as `move_to` promises. The bytes of the tag that it carried are still there.
     fn relink<S: Store>(
         &mut self,
         register: Register,
         to: DataRegister,
         store: &mut S,
     ) -> Option<u32>
-        ensures data { stands self.new (S.meaning store.new) ≡ move register.number to (stands self.old (S.meaning store.old)) }
+        ensures data { stands self.new (S.meaning store.new) ≡ move_to register.number to (stands self.old (S.meaning store.old)) }
         ensures sent { result ≡ sent register.number to.address (stands self.old (S.meaning store.old)) }
         ensures bytes { (names self.new.bank).bytes (tag_of (names self.old.bank) register.number) ≡ (names self.old.bank).bytes (tag_of (names self.old.bank) register.number) }
     {
@@ -176,17 +175,25 @@ impl DataRegisters {
         sent
     }
 
-    // Moves a register to an address and a type, and answers the line that was sent back, if any.
-    pub fn go<S: Store>(
-        &mut self,
-        register: Register,
-        to: DataRegister,
-        store: &mut S,
-    ) -> Option<u32>
-        ensures data { stands self.new (S.meaning store.new) ≡ move register.number to (stands self.old (S.meaning store.old)) }
-        ensures sent { result ≡ sent register.number to.address (stands self.old (S.meaning store.old)) }
+    // Gives a register another type. A zero register stays.
+    pub fn retype(&mut self, register: Register, kind: ElementType)
+        ensures { stands self.new ≡ (λ m. retype register.number kind (stands self.old m)) }
     {
-        self.relink(register, to, store)
+        if register.is_zero() {
+            return;
+        }
+        self.kinds[usize::from(register.number())] = kind;
+    }
+
+    // Moves a register to an address and a type, and answers what that did on the bus.
+    #[tactic(auto, using(crate::proofs::Sending::as_bus))]
+    pub fn move_to<S: Store>(&mut self, register: Register, to: DataRegister, store: &mut S) -> Bus
+        ensures data { stands self.new (S.meaning store.new) ≡ move_to register.number to (stands self.old (S.meaning store.old)) }
+        ensures bus { result ≡ move_bus register.number to.address (stands self.old (S.meaning store.old)) }
+    {
+        Bus {
+            sent: self.relink(register, to, store),
+        }
     }
 
     // Gives a register's line the bytes of a tag.
@@ -201,25 +208,20 @@ impl DataRegisters {
     }
 
     // Copies a register's line onto the line of an address, moves the register there, with a type, and answers
-    // the line that was sent back, if any. (The line is copied once the register is there: its old tag's bytes
-    // are still those that it showed.)
-    pub fn carry<S: Store>(
-        &mut self,
-        register: Register,
-        to: DataRegister,
-        store: &mut S,
-    ) -> Option<u32>
-        ensures data { stands self.new (S.meaning store.new) ≡ move register.number to (copied register.number to.address (stands self.old (S.meaning store.old))) }
-        ensures sent { result ≡ sent register.number to.address (stands self.old (S.meaning store.old)) }
+    // what that did on the bus. (The line is copied once the register is there: its old tag's bytes are still
+    // those that it showed.)
+    pub fn carry<S: Store>(&mut self, register: Register, to: DataRegister, store: &mut S) -> Bus
+        ensures data { stands self.new (S.meaning store.new) ≡ carry register.number to (stands self.old (S.meaning store.old)) }
+        ensures bus { result ≡ carry_bus register.number to.address (stands self.old (S.meaning store.old)) }
     {
         if register.is_zero() {
-            return None;
+            return Bus::quiet();
         }
         let from = self.tag(register);
         self.bank.sound();
         let sent = self.relink(register, to, store);
         self.bring(from, register);
-        sent
+        Bus { sent }
     }
 
     // A touched line and its tag, if there is one.

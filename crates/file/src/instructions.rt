@@ -50,7 +50,8 @@ impl InstructionRegisters {
 
     // A register goes to an address, and takes the words of a register that names the line, or else
     // memory's.
-    pub fn go<S: Store>(&mut self, register: Register, address: u32, memory: &Memory<S>)
+    #[inline(always)]
+    pub fn take<S: Store>(&mut self, register: Register, address: u32, memory: &Memory<S>)
         ensures { stands self.new ≡ take register.number address (data_side memory.now.registers.now (S.meaning memory.now.store.now)).memory (stands self.old) }
     {
         self.bank.sound();

@@ -6,11 +6,9 @@
 
 mod backing;
 mod data;
-mod file;
 mod instructions;
 mod machine;
 
 pub use data::DataRegisters;
-pub use file::File;
 pub use instructions::{InstructionRegisters, Memory};
 pub use machine::Machine;

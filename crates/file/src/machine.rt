@@ -1,13 +1,13 @@
 // The machine while it is warm: its registers, and what it holds beside them.
 ghost use Rattle.std.specs.Prelude.{◌≡◌};
 ghost use Rattle.flat.specs.Calls.{blank_control, started};
-ghost use Rattle.flat.specs.Machine.{entered, go};
+ghost use Rattle.flat.specs.Machine.{entered, entered_bus, take_bus, take_line};
 ghost use Rattle.file.specs.Machine.{stands};
 
 use crate::backing::{give, zeros};
 use crate::data::DataRegisters;
 use crate::instructions::{InstructionRegisters, Memory};
-use flat::{Control, Exception, Mode};
+use flat::{Bus, Control, Exception, Mode};
 use store::Store;
 use tags::Register;
 
@@ -34,26 +34,30 @@ impl Machine {
     }
 
     // An instruction register goes to an address and takes its line.
-    #[tactic(auto, unfolding(crate::specs::Machine::stands))]
-    pub fn go<S: Store>(&mut self, register: Register, address: u32, store: &S)
-        ensures { stands self.new (S.meaning store.now) ≡ go register.number address (stands self.old (S.meaning store.now)) }
+    #[inline(always)]
+    #[tactic(auto, unfolding(crate::specs::Machine::stands, flat::specs::Machine::take_bus))]
+    pub fn take_line<S: Store>(&mut self, register: Register, address: u32, store: &S) -> Bus
+        ensures machine { stands self.new (S.meaning store.now) ≡ take_line register.number address (stands self.old (S.meaning store.now)) }
+        ensures bus { result ≡ take_bus register.number address (stands self.old (S.meaning store.now)) }
     {
         let memory = Memory {
             registers: &self.registers,
             store,
         };
-        self.instructions.go(register, address, &memory);
+        self.instructions.take(register, address, &memory);
+        Bus::quiet()
     }
 
     // Enters an exception.
     #[tactic(auto, unfolding(crate::specs::Machine::stands, flat::specs::Machine::entered))]
-    pub fn enter<S: Store>(&mut self, exception: Exception, store: &S)
-        ensures { stands self.new (S.meaning store.now) ≡ entered exception (stands self.old (S.meaning store.now)) }
+    pub fn enter<S: Store>(&mut self, exception: Exception, store: &S) -> Bus
+        ensures machine { stands self.new (S.meaning store.now) ≡ entered exception (stands self.old (S.meaning store.now)) }
+        ensures bus { result ≡ entered_bus exception (stands self.old (S.meaning store.now)) }
     {
         self.control.mode = Mode::Supervisor;
         self.control.ie = self.control.ie && exception != Exception::Interrupt;
         self.control.xct = u32::from(exception);
-        self.go(Register::of(Mode::Supervisor, 63), 0, store);
+        self.take_line(Register::of(Mode::Supervisor, 63), 0, store)
     }
 }
 

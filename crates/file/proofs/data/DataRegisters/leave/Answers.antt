@@ -1,8 +1,9 @@
-use Rattle.std.proofs.Common.{ℕ, ◌/◌, ◌∙◌, ap, sym, Some, arith, get_or}
+use Rattle.std.proofs.Common.{ℕ, ◌∙◌, ap, sym, Some, arith, get_or}
 use Rattle.word.specs.declared.element.ElementType.TheVariants.{U8}
 use Rattle.marks.specs.Marks.{marked}
 use Rattle.tags.specs.Meaning.{names}
 use Rattle.flat.specs.Data.{sent_back}
+use Rattle.flat.specs.Registers.{line_of}
 use Rattle.file.specs.Data.{stands}
 use Rattle.file.proofs.Sending.{stays, stays_none, stays_clean, sends_line, sends_some, removed}
 use Rattle.file.proofs.data.DataRegisters.leave.Goals as goal
@@ -23,13 +24,13 @@ pub returns-clause-data : goal.returns-clause-data
 unfolding stands
 returns-clause-data g c =
     c.send_back.ensures.data
-    ∙ (ap (λ (a : ℕ). sent_back (a / 128) (stands c.args.self.now (g.S.Store.meaning c.args.store.now))) c.address-line.ensures
+    ∙ (ap (λ (n : ℕ). sent_back n (stands c.args.self.now (g.S.Store.meaning c.args.store.now))) (c.line_of-line.ensures ∙ ap line_of c.address.ensures)
     ∙ sym (sends_line _ _ _ _ _ _ (c.sound.ensures.linked _ c.args.register.inside c.requires) (grind (arith, c.if-not-sends.ensures))))
 
 pub returns-clause-sent : goal.returns-clause-sent
 unfolding stands
 returns-clause-sent g c =
-    ap (λ (a : ℕ). Some (a / 128)) c.address-line.ensures
+    ap (λ (n : ℕ). Some n) (c.line_of-line.ensures ∙ ap line_of c.address.ensures)
     ∙ sym (sends_some _ _ _ _ _ _ (c.sound.ensures.linked _ c.args.register.inside c.requires) (grind (arith, c.if-not-sends.ensures)))
 
 pub returns-clause-clean : goal.returns-clause-clean

@@ -2,7 +2,7 @@ use Rattle.std.proofs.Common.{◌≡◌, ℕ, ◌<◌, ◌∙◌, ap, sym, subst
 use Rattle.std.proofs.lemmas.List.{length-set}
 use Rattle.word.specs.declared.element.ElementType.TheVariants.{U8}
 use Rattle.store.specs.Meaning.{Meaning}
-use Rattle.flat.specs.Data.{leaves, move}
+use Rattle.flat.specs.Data.{leaves, move_to}
 use Rattle.marks.specs.Marks.{marked}
 use Rattle.tags.specs.Meaning.{names}
 use Rattle.tags.specs.Names.{tag_of}
@@ -40,7 +40,7 @@ returns-clause-data g c =
     let a = c.args.to.address in
     let long : r < length new.kinds = subst (λ n. r < n) (sym new.typed) c.args.register.inside in
     go_stands (names new.bank) (names c.go.new.self) new.kinds (marked old.marks) (marked new.marks) m (g.S.Store.meaning c.leave-sent.new.store) r c.args.to c.args.register.inside (sym c.if-is_zero.ensures) c.sound.ensures c.from.result (c.from.ensures ∙ c.number.ensures) long (l.data ∙ ap (sends r a) q) c.go.ensures new.quiet (clean old new m r a l.bank l.kinds l.clean)
-    ∙ ap (move r c.args.to) (sym q)
+    ∙ ap (move_to r c.args.to) (sym q)
 
 pub invariant_of-self : goal.invariant_of-self
 unfolding stands

@@ -1,6 +1,6 @@
 use Rattle.file.specs.Instructions.{stands}
 use Rattle.file.proofs.Taking.{took}
-use Rattle.file.proofs.instructions.InstructionRegisters.go.Goals as goal
+use Rattle.file.proofs.instructions.InstructionRegisters.take.Goals as goal
 
 pub returns : goal.returns
 unfolding stands
