@@ -6,11 +6,11 @@
 
 mod call;
 mod file;
-mod history;
+mod histories;
 mod loops;
 mod trails;
 
 pub use file::File;
-pub use history::history;
+pub use histories::history;
 pub use loops::MOST_STEPS;
 pub use trails::Trails;

@@ -1,8 +1,9 @@
 // Steps one after the other: run and trace.
-ghost use Rattle.std.specs.Prelude.{◌≡◌};
+ghost use Rattle.std.specs.Prelude.{◌≡◌, ◌&&◌, not, nat_lt};
 ghost use Rattle.flat.specs.Calls.{has_entered, run_steps, trace_steps};
 ghost use Rattle.file.specs.Machine.{stands};
 ghost use Rattle.calls.specs.Loops.{Ended, beside};
+ghost use Rattle.trail.specs.Trails.{space as space_of};
 ghost use Rattle.calls.specs.Trails.{space};
 
 use crate::trails::Trails;
@@ -46,6 +47,14 @@ pub(crate) fn run_steps<S: Store>(machine: &mut Machine, limit: u32, store: &mut
     ran
 }
 
+// Whether a trace makes another step: no step entered, and both trails have space for one more record beside
+// the slots that are left alone.
+fn goes_on(last: Stepped, trails: &Trails, spare: Slots) -> bool
+    ensures { result ≡ (not (has_entered last) && nat_lt spare.steps (space_of trails.now.steps) && nat_lt spare.lines (space_of trails.now.lines)) }
+{
+    !has_entered(last) && trails.have_space(spare)
+}
+
 // Up to so many steps, each recorded, as long as both trails have space beside so many slots of each.
 pub(crate) fn trace_steps<S: Store>(
     machine: &mut Machine,
@@ -61,7 +70,7 @@ pub(crate) fn trace_steps<S: Store>(
         last: Stepped::Done,
     };
     while ran.steps < limit {
-        if has_entered(ran.last) || !trails.have_space(spare) {
+        if !goes_on(ran.last, trails, spare) {
             break;
         }
         let Recorded { record, bus } = step_recorded(machine, store);

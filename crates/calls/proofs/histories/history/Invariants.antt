@@ -1,5 +1,5 @@
 use Rattle.calls.proofs.Feeding.{Reached}
-use Rattle.calls.proofs.history.history.Given as goal
+use Rattle.calls.proofs.histories.history.Given as goal
 
 -- The calls so far were made.
 abbrev pub invariant-loop-i : goal.invariant-loop-i

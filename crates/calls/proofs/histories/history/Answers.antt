@@ -1,7 +1,7 @@
 use Rattle.std.proofs.Common.{◌<◌, length, arith}
 use Rattle.trail.specs.Trails.{space as space_of}
 use Rattle.calls.proofs.Feeding.{nothing_reached, reached_more, all_reached, room, is_added}
-use Rattle.calls.proofs.history.history.Goals as goal
+use Rattle.calls.proofs.histories.history.Goals as goal
 
 pub loop-i-init : goal.loop-i-init
 loop-i-init g c = nothing_reached _ _ _ _ (g.met.S.Store.sound c.args.store.now)

@@ -1,0 +1,4 @@
+pub mod Ending
+pub mod TagsRight
+pub mod Feeding
+pub mod Tracing

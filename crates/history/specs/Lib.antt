@@ -1,4 +1,0 @@
-pub mod Fed
-pub mod Made
-pub mod Leaving
-pub mod Law
