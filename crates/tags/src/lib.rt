@@ -6,16 +6,13 @@
 // of the flat machine which registers there are and what they name, and how marks are counted.
 #![tactic(auto)]
 
-mod asking;
 mod bank;
 mod change;
 mod columns;
-mod going;
 mod index;
 mod lines;
 mod register;
 mod tag;
-mod writing;
 
 pub use bank::Bank;
 pub use change::Change;
