@@ -4,7 +4,6 @@ use crate::rig::{
     FILLED, MODES, after, check_at, check_data, check_stored, laid, load, memory, number, one,
     pairs, started, w,
 };
-use engine::run;
 use flat::{Mode, Ran, Stepped};
 use std::process::Abort;
 use store::Ram;
@@ -63,17 +62,26 @@ fn check(rt: &impl Abort, case: &Case) {
     }
 }
 
-// x op y is z, each by its type.
-fn check_scalar(rt: &impl Abort, op: Arith, kinds: [ElementType; 3], bits: [u64; 3]) {
-    let form = Form::Scalar;
+// A function of dB and dC, and its result in dA.
+fn arith(op: Arith, form: Form) -> Operation {
     let (a, b, c) = (1, 2, 3);
+    Operation::Arith { op, form, a, b, c }
+}
+
+fn add_address(form: Form) -> Operation {
+    let (a, b, c) = (1, 2, 3);
+    Operation::AddAddress { form, a, b, c }
+}
+
+// x op y is z, each by its type.
+fn check_scalar(rt: &impl Abort, op: Operation, kinds: [ElementType; 3], bits: [u64; 3]) {
     let [x, y, z] = bits;
     let [to, from, by] = kinds;
     check(
         rt,
         &Case {
             kinds: [to, from, by, U8],
-            op: Operation::Arith { op, form, a, b, c },
+            op,
             b: one(from, 19, x),
             c: one(by, 28, y),
             a: one(to, 11, z),
@@ -83,16 +91,14 @@ fn check_scalar(rt: &impl Abort, op: Arith, kinds: [ElementType; 3], bits: [u64;
 }
 
 // The same at every element place.
-fn check_vector(rt: &impl Abort, op: Arith, kinds: [ElementType; 3], bits: [[u64; 2]; 3]) {
-    let form = Form::Vector;
-    let (a, b, c) = (1, 2, 3);
+fn check_vector(rt: &impl Abort, op: Operation, kinds: [ElementType; 3], bits: [[u64; 2]; 3]) {
     let [x, y, z] = bits;
     let [to, from, by] = kinds;
     check(
         rt,
         &Case {
             kinds: [to, from, by, U8],
-            op: Operation::Arith { op, form, a, b, c },
+            op,
             b: pairs(from, x),
             c: pairs(by, y),
             a: pairs(to, z),
@@ -119,7 +125,7 @@ fn sums_and_differences(rt: HostRuntime) {
             [0x8000_0000_0000_0000, 1, 0x7FFF_FFFF_FFFF_FFFF],
         ),
     ] {
-        check_scalar(&rt, op, kinds, bits);
+        check_scalar(&rt, arith(op, Form::Scalar), kinds, bits);
     }
 }
 
@@ -132,7 +138,7 @@ fn orders_and_products(rt: HostRuntime) {
         (Arith::Mul, [S16, S16, S16], [0xFED4, 300, 0xA070]),
         (Arith::Mul, [U32, U32, U32], [0x1_0001, 0x1_0001, 0x2_0001]),
     ] {
-        check_scalar(&rt, op, kinds, bits);
+        check_scalar(&rt, arith(op, Form::Scalar), kinds, bits);
     }
 }
 
@@ -160,7 +166,7 @@ fn bits_joined(rt: HostRuntime) {
             ],
         ),
     ] {
-        check_scalar(&rt, op, kinds, bits);
+        check_scalar(&rt, arith(op, Form::Scalar), kinds, bits);
     }
 }
 
@@ -179,19 +185,19 @@ fn shifts_and_rotations(rt: HostRuntime) {
         (Arith::Ror, [U16, U16, U8], [0x1234, 4, 0x4123]),
         (Arith::Ror, [S8, S8, U32], [0x01, 1, 0x80]),
     ] {
-        check_scalar(&rt, op, kinds, bits);
+        check_scalar(&rt, arith(op, Form::Scalar), kinds, bits);
     }
 }
 
 // dB's address is 147, whatever its element is.
 #[test]
 fn addresses_are_added(rt: HostRuntime) {
-    for (op, kinds, bits) in [
-        (Arith::Addr, [U32, U8, U32], [5, 1000, 1147]),
-        (Arith::Addr, [U8, U64, U8], [5, 200, 91]),
-        (Arith::Addr, [S8, S16, S8], [5, 0xFF, 0x92]),
+    for (kinds, bits) in [
+        ([U32, U8, U32], [5, 1000, 1147]),
+        ([U8, U64, U8], [5, 200, 91]),
+        ([S8, S16, S8], [5, 0xFF, 0x92]),
     ] {
-        check_scalar(&rt, op, kinds, bits);
+        check_scalar(&rt, add_address(Form::Scalar), kinds, bits);
     }
 }
 
@@ -250,14 +256,14 @@ fn vectors(rt: HostRuntime) {
             [U16, U16, S16],
             [[0x1234, 1], [4, 1], [0x4123, 0x8000]],
         ),
-        (
-            Arith::Addr,
-            [U32, U32, U32],
-            [[5, 5], [1000, 0xFFFF_FFFF], [1147, 146]],
-        ),
-        (Arith::Addr, [U8, U64, U8], [[5, 5], [200, 109], [91, 0]]),
     ] {
-        check_vector(&rt, op, kinds, bits);
+        check_vector(&rt, arith(op, Form::Vector), kinds, bits);
+    }
+    for (kinds, bits) in [
+        ([U32, U32, U32], [[5, 5], [1000, 0xFFFF_FFFF], [1147, 146]]),
+        ([U8, U64, U8], [[5, 5], [200, 109], [91, 0]]),
+    ] {
+        check_vector(&rt, add_address(Form::Vector), kinds, bits);
     }
 }
 
@@ -439,7 +445,7 @@ fn one_line(rt: HostRuntime) {
             (129, S8, pairs(U8, [200, 144])),
         );
         assert_eq!(rt;
-            run(&mut file, 2, &mut ram),
+            file.run(2, &mut ram),
             Ok(Ran {
                 steps: 2,
                 last: Stepped::Done

@@ -2,8 +2,7 @@
 use crate::rig::{
     LINES, check_at, check_code, check_data, check_stored, dup, hand, laid, load, memory, w,
 };
-use engine::{MOST_STEPS, run, step};
-use file::File;
+use calls::{File, MOST_STEPS};
 use flat::{Exception, Mode, Ran, Stepped};
 use refusal::Refusal;
 use store::Ram;
@@ -24,9 +23,9 @@ fn a_cold_file(rt: HostRuntime) {
     let before = bytes;
     let mut ram = Ram::new(&mut bytes);
     let mut file = File::Cold;
-    assert_eq!(rt; refused(step(&mut file, &mut ram)), Some(2));
-    assert_eq!(rt; refused(run(&mut file, 0, &mut ram)), Some(2));
-    assert_eq!(rt; refused(run(&mut file, 1_000_001, &mut ram)), Some(2));
+    assert_eq!(rt; refused(file.step(&mut ram)), Some(2));
+    assert_eq!(rt; refused(file.run(0, &mut ram)), Some(2));
+    assert_eq!(rt; refused(file.run(1_000_001, &mut ram)), Some(2));
     assert_eq!(rt; refused(file.show_rest()), Some(2));
     assert_eq!(rt; bytes, before);
 }
@@ -40,7 +39,7 @@ fn a_run_over_the_limit(rt: HostRuntime) {
     assert_eq!(rt; MOST_STEPS, 1_000_000);
     assert_eq!(rt; file.boot(&ram), Ok(()));
     for limit in [1_000_001, u32::MAX] {
-        assert_eq!(rt; refused(run(&mut file, limit, &mut ram)), Some(5));
+        assert_eq!(rt; refused(file.run(limit, &mut ram)), Some(5));
         check_at(&rt, &file, Mode::Supervisor, 0, 0);
         check_data(
             &rt,
@@ -70,7 +69,7 @@ fn a_run_of_no_steps(rt: HostRuntime) {
         steps: 0,
         last: Stepped::Done,
     };
-    assert_eq!(rt; run(&mut file, 0, &mut ram), Ok(ran));
+    assert_eq!(rt; file.run(0, &mut ram), Ok(ran));
     check_at(&rt, &file, Mode::Supervisor, 0, 0);
 }
 
@@ -81,22 +80,19 @@ fn zero_lines(rt: HostRuntime) {
     let mut ram = Ram::new(&mut bytes);
     let mut file = File::Cold;
     assert_eq!(rt; file.boot(&ram), Ok(()));
-    assert_eq!(rt; step(&mut file, &mut ram), Ok(Stepped::Done));
+    assert_eq!(rt; file.step(&mut ram), Ok(Stepped::Done));
     check_at(&rt, &file, Mode::Supervisor, 4, 0);
     let last = Stepped::Entered(Exception::NextLine);
-    assert_eq!(rt; run(&mut file, 1000, &mut ram), Ok(Ran { steps: 31, last }));
+    assert_eq!(rt; file.run(1000, &mut ram), Ok(Ran { steps: 31, last }));
     check_at(&rt, &file, Mode::Supervisor, 0, 0x15);
-    assert_eq!(rt;
-        run(&mut file, 1_000_000, &mut ram),
-        Ok(Ran { steps: 32, last })
-    );
+    assert_eq!(rt; file.run(1_000_000, &mut ram), Ok(Ran { steps: 32, last }));
     let done = Ran {
         steps: 31,
         last: Stepped::Done,
     };
-    assert_eq!(rt; run(&mut file, 31, &mut ram), Ok(done));
+    assert_eq!(rt; file.run(31, &mut ram), Ok(done));
     check_at(&rt, &file, Mode::Supervisor, 124, 0x15);
-    assert_eq!(rt; run(&mut file, 1, &mut ram), Ok(Ran { steps: 1, last }));
+    assert_eq!(rt; file.run(1, &mut ram), Ok(Ran { steps: 1, last }));
     assert_eq!(rt; file.flush(&mut ram), Ok(0));
 }
 
@@ -118,7 +114,7 @@ fn a_run_through_both_modes(rt: HostRuntime) {
     let mut file = File::Cold;
     assert_eq!(rt; file.boot(&ram), Ok(()));
     let last = Stepped::Entered(Exception::Software);
-    assert_eq!(rt; run(&mut file, 100, &mut ram), Ok(Ran { steps: 4, last }));
+    assert_eq!(rt; file.run(100, &mut ram), Ok(Ran { steps: 4, last }));
     check_at(&rt, &file, Mode::Supervisor, 0, 4);
     check_code(&rt, &file, 63, 28);
     check_data(&rt, &file, 5, (128, U8, [1; 128]));

@@ -3,9 +3,8 @@ use crate::rig::{
     LINES, MODES, after, check_at, check_code, check_data, check_enters, check_stored, check_word,
     dup, fetch, hand, jump_not_zero, jump_zero, laid, load, memory, number, one, started, w,
 };
-use engine::step;
-use file::File;
-use flat::{Exception, Mode, Stepped};
+use calls::File;
+use flat::{DataRegister, Exception, Mode, Stepped};
 use std::process::Abort;
 use store::{Ram, Store};
 use tags::Register;
@@ -40,7 +39,7 @@ fn retx() -> u32 {
 }
 
 fn check_done<S: Store>(rt: &impl Abort, file: &mut File, store: &mut S) {
-    assert_eq!(rt; step(file, store), Ok(Stepped::Done));
+    assert_eq!(rt; file.step(store), Ok(Stepped::Done));
 }
 
 fn check_ie(rt: &impl Abort, file: &File, ie: bool) {
@@ -121,10 +120,10 @@ fn hand_in_word_31(rt: HostRuntime) {
     let mut file = started(&rt, mode, 2, &mut ram);
     if let File::Warm(machine) = &mut file {
         for field in 1..63u8 {
-            machine.go(Register::of(Mode::User, field), 128, &ram);
-            machine.go(Register::of(Mode::Supervisor, field), 128, &ram);
+            machine.take_line(Register::of(Mode::User, field), 128, &ram);
+            machine.take_line(Register::of(Mode::Supervisor, field), 128, &ram);
         }
-        machine.go(Register::of(Mode::User, 63), 128, &ram);
+        machine.take_line(Register::of(Mode::User, 63), 128, &ram);
     }
     check_word(&rt, &file, 127, 31, hand(63, 4));
     check_done(&rt, &mut file, &mut ram);
@@ -354,8 +353,11 @@ fn no_next_line(rt: HostRuntime) {
             check_code(&rt, &file, 65, 0);
             check_swiargs(&rt, &file, [[0; 128]; 4]);
             assert_eq!(rt;
-                file.show_data(69).map(|data| (data.address, data.kind)),
-                Ok((0, U8))
+                file.show_data(69).map(|data| data.register),
+                Ok(DataRegister {
+                    address: 0,
+                    kind: U8
+                })
             );
             assert_eq!(rt; file.flush(&mut ram), Ok(0));
         }

@@ -3,8 +3,7 @@ use crate::rig::{
     LINES, MODES, after, check_at, check_code, check_data, check_stored, check_word, dup, fetch,
     jump_zero, laid, load, memory, number, one, started, store,
 };
-use engine::step;
-use file::File;
+use calls::File;
 use flat::{Mode, Stepped};
 use std::process::Abort;
 use store::Ram;
@@ -51,13 +50,13 @@ fn loads(rt: HostRuntime) {
         let mut file = started(&rt, mode, 1, &mut ram);
         check_data(&rt, &file, number(mode, 5), (200, S16, [1; 128]));
         assert_eq!(rt; count(&file, mode, 5), Some(1));
-        assert_eq!(rt; step(&mut file, &mut ram), Ok(Stepped::Done));
+        assert_eq!(rt; file.step(&mut ram), Ok(Stepped::Done));
         check_data(&rt, &file, number(mode, 6), (128, U32, [1; 128]));
         assert_eq!(rt; count(&file, mode, 5), Some(2));
-        assert_eq!(rt; step(&mut file, &mut ram), Ok(Stepped::Done));
+        assert_eq!(rt; file.step(&mut ram), Ok(Stepped::Done));
         check_data(&rt, &file, number(mode, 5), (261, U64, [2; 128]));
         assert_eq!(rt; count(&file, mode, 6), Some(1));
-        assert_eq!(rt; step(&mut file, &mut ram), Ok(Stepped::Done));
+        assert_eq!(rt; file.step(&mut ram), Ok(Stepped::Done));
         check_data(&rt, &file, number(mode, 0), (0, U8, [0; 128]));
         check_at(&rt, &file, mode, after(mode, 4), 0);
         assert_eq!(rt; file.flush(&mut ram), Ok(0));
@@ -80,11 +79,11 @@ fn stores(rt: HostRuntime) {
         let mut file = started(&rt, mode, 2, &mut ram);
         check_data(&rt, &file, number(mode, 5), (260, S16, [1; 128]));
         check_stored(&rt, &ram, 2, [2; 128]);
-        assert_eq!(rt; step(&mut file, &mut ram), Ok(Stepped::Done));
+        assert_eq!(rt; file.step(&mut ram), Ok(Stepped::Done));
         check_data(&rt, &file, number(mode, 5), (384, U64, [1; 128]));
         check_stored(&rt, &ram, 2, [1; 128]);
         check_stored(&rt, &ram, 3, [3; 128]);
-        assert_eq!(rt; step(&mut file, &mut ram), Ok(Stepped::Done));
+        assert_eq!(rt; file.step(&mut ram), Ok(Stepped::Done));
         check_data(&rt, &file, number(mode, 0), (0, U8, [0; 128]));
         check_at(&rt, &file, mode, after(mode, 4), 0);
         assert_eq!(rt; file.flush(&mut ram), Ok(1));
@@ -152,10 +151,10 @@ fn two_registers_on_a_line(rt: HostRuntime) {
     assert_eq!(rt; count(&file, mode, 6), Some(2));
     assert_eq!(rt; count(&file, mode, 7), Some(124));
     check_data(&rt, &file, 70, (130, U8, [1; 128]));
-    assert_eq!(rt; step(&mut file, &mut ram), Ok(Stepped::Done));
+    assert_eq!(rt; file.step(&mut ram), Ok(Stepped::Done));
     check_data(&rt, &file, 69, (128, U8, [0; 128]));
     check_data(&rt, &file, 70, (130, U8, [0; 128]));
-    assert_eq!(rt; step(&mut file, &mut ram), Ok(Stepped::Done));
+    assert_eq!(rt; file.step(&mut ram), Ok(Stepped::Done));
     check_data(&rt, &file, 69, (256, U8, [0; 128]));
     assert_eq!(rt; count(&file, mode, 5), Some(1));
     assert_eq!(rt; count(&file, mode, 6), Some(1));
@@ -219,7 +218,7 @@ fn a_fetch_sees_newer_bytes(rt: HostRuntime) {
         check_word(&rt, &file, number(mode, 1), 0, 0x0101_0101);
         check_word(&rt, &file, number(mode, 2), 0, 0x0101_0101);
         for _ in 0..4u8 {
-            assert_eq!(rt; step(&mut file, &mut ram), Ok(Stepped::Done));
+            assert_eq!(rt; file.step(&mut ram), Ok(Stepped::Done));
         }
         check_word(&rt, &file, number(mode, 3), 0, 0);
         check_code(&rt, &file, number(mode, 3), 128);
@@ -242,9 +241,9 @@ fn every_type(rt: HostRuntime) {
             let mut file = started(&rt, mode, 1, &mut ram);
             check_data(&rt, &file, number(mode, 5), (140, kind, [1; 128]));
             let first = first_line(&file);
-            assert_eq!(rt; step(&mut file, &mut ram), Ok(Stepped::Done));
+            assert_eq!(rt; file.step(&mut ram), Ok(Stepped::Done));
             check_data(&rt, &file, number(mode, 6), (268, kind, first));
-            assert_eq!(rt; step(&mut file, &mut ram), Ok(Stepped::Done));
+            assert_eq!(rt; file.step(&mut ram), Ok(Stepped::Done));
             check_data(&rt, &file, number(mode, 7), (0, kind, [0; 128]));
             check_data(&rt, &file, number(other(mode), 7), (0, U8, [0; 128]));
             check_at(&rt, &file, mode, after(mode, 3), 0);
@@ -272,10 +271,10 @@ fn a_load_sends_back(rt: HostRuntime) {
         let mut file = started(&rt, mode, 4, &mut ram);
         check_stored(&rt, &ram, 1, [1; 128]);
         check_data(&rt, &file, number(mode, 6), (130, U8, [0; 128]));
-        assert_eq!(rt; step(&mut file, &mut ram), Ok(Stepped::Done));
+        assert_eq!(rt; file.step(&mut ram), Ok(Stepped::Done));
         check_data(&rt, &file, number(mode, 6), (254, U8, [0; 128]));
         check_stored(&rt, &ram, 1, [1; 128]);
-        assert_eq!(rt; step(&mut file, &mut ram), Ok(Stepped::Done));
+        assert_eq!(rt; file.step(&mut ram), Ok(Stepped::Done));
         check_data(&rt, &file, number(mode, 6), (256, U8, [2; 128]));
         check_stored(&rt, &ram, 1, [0; 128]);
         assert_eq!(rt; file.flush(&mut ram), Ok(0));

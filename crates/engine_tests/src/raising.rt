@@ -3,7 +3,6 @@ use crate::rig::{
     LINES, MODES, after, check_at, check_code, check_data, check_enters, dup, fetch, hand,
     jump_zero, laid, load, memory, number, one, started, store, w,
 };
-use engine::step;
 use flat::{Exception, Mode, Stepped};
 use std::process::Abort;
 use store::{Ram, Rom, Store};
@@ -44,6 +43,10 @@ const FIXED_LINE: Entry = Entry {
 
 fn arith(op: Arith, form: Form, a: u8, b: u8, c: u8) -> u32 {
     w(Operation::Arith { op, form, a, b, c })
+}
+
+fn add_address(form: Form, a: u8, b: u8, c: u8) -> u32 {
+    w(Operation::AddAddress { form, a, b, c })
 }
 
 fn div(form: Form, a: u8, b: u8, c: u8, d: u8) -> u32 {
@@ -117,7 +120,7 @@ fn check_raises_on_rom(rt: &impl Abort, kinds: [ElementType; 4], word: u32, entr
 // In both modes the fifth word of a program is done.
 fn check_does<S: Store>(rt: &impl Abort, mode: Mode, store: &mut S) {
     let mut file = started(rt, mode, 4, store);
-    assert_eq!(rt; step(&mut file, store), Ok(Stepped::Done));
+    assert_eq!(rt; file.step(store), Ok(Stepped::Done));
     check_at(rt, &file, mode, after(mode, 5), 0);
 }
 
@@ -304,7 +307,7 @@ fn wide_arithmetic(rt: HostRuntime) {
 fn wide_others(rt: HostRuntime) {
     for form in [Form::Scalar, Form::Vector] {
         for kinds in [[U64, U8, U8, U8], [U8, U8, S64, U8]] {
-            check_raises(&rt, kinds, arith(Arith::Addr, form, 1, 2, 3), WIDE);
+            check_raises(&rt, kinds, add_address(form, 1, 2, 3), WIDE);
         }
         check_raises(&rt, [U64; 4], div(form, 1, 2, 3, 4), WIDE);
         check_raises(&rt, [U8, U8, U64, U8], div(form, 1, 2, 3, 4), WIDE);
@@ -323,11 +326,7 @@ fn not_too_wide(rt: HostRuntime) {
             check_does_on_ram(&rt, [U64, S64, U64, U8], arith(op, form, 1, 2, 3));
         }
     }
-    check_does_on_ram(
-        &rt,
-        [U32, U64, U16, U8],
-        arith(Arith::Addr, Form::Scalar, 1, 2, 3),
-    );
+    check_does_on_ram(&rt, [U32, U64, U16, U8], add_address(Form::Scalar, 1, 2, 3));
     check_does_on_ram(&rt, [U64, U64, U8, U64], div(Form::Scalar, 1, 2, 3, 4));
     for op in [Reduction::Add, Reduction::And] {
         check_does_on_ram(&rt, [U64, S64, U8, U8], reduce(op, 1, 2));
@@ -361,7 +360,7 @@ fn unequal_widths(rt: HostRuntime) {
     check_raises(
         &rt,
         [U16, U16, U8, U8],
-        arith(Arith::Addr, form, 1, 2, 3),
+        add_address(form, 1, 2, 3),
         UNDEFINED,
     );
     for kinds in [
@@ -404,7 +403,7 @@ fn fixed_lines(rt: HostRuntime) {
     for word in [
         arith(Arith::Add, Form::Scalar, 1, 2, 3),
         arith(Arith::Ror, Form::Vector, 1, 2, 3),
-        arith(Arith::Addr, Form::Scalar, 1, 0, 0),
+        add_address(Form::Scalar, 1, 0, 0),
         div(Form::Scalar, 1, 2, 3, 4),
         div(Form::Vector, 1, 2, 3, 0),
         div(Form::Scalar, 0, 2, 3, 4),

@@ -1,8 +1,7 @@
 // What the tests share: a program on line 0 of a store of eight lines, the lines that it works on, and
 // what is looked at afterwards.
-use engine::run;
-use file::File;
-use flat::{Exception, Mode, Ran, ShownData, Stepped};
+use calls::File;
+use flat::{DataRegister, Exception, Mode, Ran, ShownData, Stepped};
 use std::process::Abort;
 use store::{Ram, Store};
 use word::{ElementType, Operation, code};
@@ -128,7 +127,7 @@ pub(crate) fn started<S: Store>(rt: &impl Abort, mode: Mode, steps: u32, store: 
     assert_eq!(rt; file.boot(store), Ok(()));
     let steps = lead(mode).saturating_add(steps);
     let last = Stepped::Done;
-    assert_eq!(rt; run(&mut file, steps, store), Ok(Ran { steps, last }));
+    assert_eq!(rt; file.run(steps, store), Ok(Ran { steps, last }));
     file
 }
 
@@ -143,7 +142,7 @@ pub(crate) fn check_enters<S: Store>(
         steps: 1,
         last: Stepped::Entered(exception),
     };
-    assert_eq!(rt; run(file, 1, store), Ok(ran));
+    assert_eq!(rt; file.run(1, store), Ok(ran));
 }
 
 // The mode, the address of its ipc, and xct.
@@ -177,11 +176,8 @@ pub(crate) fn check_data(
     data: (u32, ElementType, [u8; 128]),
 ) {
     let (address, kind, bytes) = data;
-    let shown = ShownData {
-        address,
-        kind,
-        bytes,
-    };
+    let register = DataRegister { address, kind };
+    let shown = ShownData { register, bytes };
     assert_eq!(rt; file.show_data(number), Ok(shown));
 }
 

@@ -1,6 +1,6 @@
 // The file at work: what its calls answer and refuse, what they leave in the store, and what registers
-// show. Every answer here stands as a number that was written by hand. It uses `file`, `store` for what
-// the file is handed, and `tags`, `flat`, `word` and `refusal` for what it is told and answers.
+// show. Every answer here stands as a number that was written by hand. It uses
+// `calls` and `file`, `store` for what the file is handed, and `tags`, `flat`, `word` and `refusal` for what it is told and answers.
 #![tactic(auto)]
 
 #[cfg(test)]
@@ -9,7 +9,8 @@ mod poke;
 #[cfg(test)]
 mod tests {
     use crate::poke::Poke;
-    use file::{DataRegisters, File, InstructionRegisters, Machine};
+    use calls::File;
+    use file::{DataRegisters, InstructionRegisters, Machine};
     use flat::{Control, DataRegister, Exception, Mode, ShownData, ShownInstruction};
     use refusal::Refusal;
     use store::{OpenBus, Ram, Rom, Store};
@@ -96,14 +97,16 @@ mod tests {
     fn show_has_128_registers_of_a_kind(rt: HostRuntime) {
         let mut file = File::Cold;
         assert_eq!(rt; refused(file.boot(&OpenBus::new(1))), None);
-        let none = ShownData {
+        let register = DataRegister {
             address: 0,
             kind: ElementType::U8,
+        };
+        let none = ShownData {
+            register,
             bytes: [0; 128],
         };
         let ones = ShownData {
-            address: 0,
-            kind: ElementType::U8,
+            register,
             bytes: [0xFF; 128],
         };
         for (number, data) in [(0, none), (64, none), (5, ones), (127, ones)] {
@@ -147,8 +150,8 @@ mod tests {
         let mut machine = Machine::new(&rom);
         machine.control.mode = Mode::User;
         machine.control.ie = true;
-        machine.go(user(63), 260, &rom);
-        machine.go(supervisor(63), 388, &rom);
+        machine.take_line(user(63), 260, &rom);
+        machine.take_line(supervisor(63), 388, &rom);
         machine.enter(Exception::Software, &rom);
         assert_eq!(rt; machine.control.mode, Mode::Supervisor);
         assert_eq!(rt; machine.control.ie, true);
@@ -169,18 +172,18 @@ mod tests {
         let mut bytes = numbered();
         let mut ram = Ram::new(&mut bytes);
         let mut machine = Machine::new(&ram);
-        machine.go(user(1), 256, &ram);
-        machine.registers.go(user(5), at(256), &mut ram);
+        machine.take_line(user(1), 256, &ram);
+        machine.registers.move_to(user(5), at(256), &mut ram);
         machine.registers.write(user(5), &Poke(9));
-        machine.go(user(2), 260, &ram);
+        machine.take_line(user(2), 260, &ram);
         assert_eq!(rt; machine.instructions.bytes(user(2))[0], 2);
-        machine.go(user(1), 0, &ram);
-        machine.go(user(2), 0, &ram);
-        machine.go(user(2), 260, &ram);
+        machine.take_line(user(1), 0, &ram);
+        machine.take_line(user(2), 0, &ram);
+        machine.take_line(user(2), 260, &ram);
         assert_eq!(rt; machine.instructions.bytes(user(2))[0], 9);
         assert_eq!(rt; machine.instructions.address(user(2)), 260);
         assert_eq!(rt; stored(&ram, 2), Some(2));
-        machine.go(user(0), 256, &ram);
+        machine.take_line(user(0), 256, &ram);
         assert_eq!(rt; machine.instructions.address(user(0)), 0);
         assert_eq!(rt; machine.instructions.bytes(user(0))[0], 0);
     }
@@ -215,18 +218,18 @@ mod tests {
         let mut bytes = numbered();
         let mut ram = Ram::new(&mut bytes);
         let mut registers = Machine::new(&ram).registers;
-        assert_eq!(rt; registers.go(user(5), at(256), &mut ram), None);
-        assert_eq!(rt; registers.go(user(6), at(300), &mut ram), None);
+        assert_eq!(rt; registers.move_to(user(5), at(256), &mut ram).sent, None);
+        assert_eq!(rt; registers.move_to(user(6), at(300), &mut ram).sent, None);
         registers.write(user(5), &Poke(9));
         assert_eq!(rt; registers.register(user(6)), at(300));
         assert_eq!(rt; registers.bytes(user(6))[0], 9);
-        assert_eq!(rt; registers.go(user(5), at(384), &mut ram), None);
-        assert_eq!(rt; registers.go(user(6), at(383), &mut ram), None);
+        assert_eq!(rt; registers.move_to(user(5), at(384), &mut ram).sent, None);
+        assert_eq!(rt; registers.move_to(user(6), at(383), &mut ram).sent, None);
         assert_eq!(rt; stored(&ram, 2), Some(2));
-        assert_eq!(rt; registers.go(user(6), at(384), &mut ram), Some(2));
+        assert_eq!(rt; registers.move_to(user(6), at(384), &mut ram).sent, Some(2));
         assert_eq!(rt; stored(&ram, 2), Some(9));
-        assert_eq!(rt; registers.go(user(5), at(0), &mut ram), None);
-        assert_eq!(rt; registers.go(user(6), at(0), &mut ram), None);
+        assert_eq!(rt; registers.move_to(user(5), at(0), &mut ram).sent, None);
+        assert_eq!(rt; registers.move_to(user(6), at(0), &mut ram).sent, None);
         let mut out = [0; 128];
         registers.read(2, &ram, &mut out);
         assert_eq!(rt; out[0], 9);
@@ -237,7 +240,7 @@ mod tests {
         let mut bytes = numbered();
         let mut ram = Ram::new(&mut bytes);
         let mut registers = Machine::new(&ram).registers;
-        assert_eq!(rt; registers.go(user(0), at(256), &mut ram), None);
+        assert_eq!(rt; registers.move_to(user(0), at(256), &mut ram).sent, None);
         registers.write(user(0), &Poke(9));
         assert_eq!(rt; registers.register(user(0)).address, 0);
         assert_eq!(rt; registers.bytes(user(0))[0], 0);
@@ -252,8 +255,8 @@ mod tests {
         for field in 1..64u8 {
             machine
                 .registers
-                .go(user(field), at(128 * u32::from(field)), &mut ram);
-            machine.registers.go(
+                .move_to(user(field), at(128 * u32::from(field)), &mut ram);
+            machine.registers.move_to(
                 supervisor(field),
                 at(128 * u32::from(field) + 8192),
                 &mut ram,
@@ -274,7 +277,7 @@ mod tests {
         let mut bytes = numbered();
         let mut ram = Ram::new(&mut bytes);
         let mut machine = Machine::new(&ram);
-        machine.registers.go(user(5), at(256), &mut ram);
+        machine.registers.move_to(user(5), at(256), &mut ram);
         machine.registers.write(user(5), &Poke(8));
         machine.registers.write(user(6), &Poke(9));
         let mut file = File::Warm(machine);
@@ -292,13 +295,13 @@ mod tests {
         let mut bytes = numbered();
         let mut ram = Ram::new(&mut bytes);
         let mut machine = Machine::new(&ram);
-        machine.registers.go(user(5), at(128), &mut ram);
-        machine.registers.go(user(6), at(640), &mut ram);
+        machine.registers.move_to(user(5), at(128), &mut ram);
+        machine.registers.move_to(user(6), at(640), &mut ram);
         machine.registers.write(user(5), &Poke(8));
         machine.registers.write(user(6), &Poke(9));
         let mut few = [7; 256];
         let mut small = Ram::new(&mut few);
-        machine.registers.go(user(7), at(768), &mut small);
+        machine.registers.move_to(user(7), at(768), &mut small);
         let mut file = File::Warm(machine);
         assert_eq!(rt; shown(&file, 7), Some(0));
         assert_eq!(rt; shown(&file, 6), Some(9));
@@ -309,9 +312,9 @@ mod tests {
         assert_eq!(rt; shown(&file, 6), Some(9));
         if let File::Warm(machine) = &mut file {
             machine.registers.write(user(6), &Poke(3));
-            let left = machine.registers.go(user(6), at(0), &mut small);
-            assert_eq!(rt; left, Some(5));
-            machine.registers.go(user(6), at(640), &mut small);
+            let bus = machine.registers.move_to(user(6), at(0), &mut small);
+            assert_eq!(rt; bus.sent, Some(5));
+            machine.registers.move_to(user(6), at(640), &mut small);
         }
         assert_eq!(rt; shown(&file, 6), Some(0));
         assert_eq!(rt; file.halt(&mut small), Ok(0));

@@ -1,8 +1,7 @@
 // Lists of calls.
 use crate::rig::{BLANK, NO_LINE, done, memory};
-use file::File;
-use flat::{Control, Mode, Ran, ShownData, Stepped};
-use history::{Answer, Call, history};
+use calls::{File, Trails, history};
+use flat::{Answer, Call, Control, DataRegister, Mode, Ran, ShownData, Slots, Stepped};
 use refusal::Refusal;
 use store::Ram;
 use trail::Trail;
@@ -24,8 +23,7 @@ fn every_call_and_every_refusal(rt: HostRuntime) {
         Call::Run(0),
         Call::Trace {
             limit: 1,
-            steps: 1,
-            lines: 1,
+            most: Slots { steps: 1, lines: 1 },
         },
         Call::Pin(true),
         Call::ShowData(200),
@@ -41,13 +39,11 @@ fn every_call_and_every_refusal(rt: HostRuntime) {
         Call::Step,
         Call::Trace {
             limit: 9,
-            steps: 3,
-            lines: 9,
+            most: Slots { steps: 3, lines: 9 },
         },
         Call::Trace {
             limit: 1_000_001,
-            steps: 3,
-            lines: 9,
+            most: Slots { steps: 3, lines: 9 },
         },
         Call::Pin(true),
         Call::ShowRest,
@@ -63,9 +59,11 @@ fn every_call_and_every_refusal(rt: HostRuntime) {
     let mut bytes = memory();
     let mut ram = Ram::new(&mut bytes);
     let mut answers = Trail::new(&mut answer_slots);
-    let mut steps = Trail::new(&mut step_slots);
-    let mut lines = Trail::new(&mut line_slots);
-    let file = history(&calls, &mut answers, &mut steps, &mut lines, &mut ram);
+    let mut trails = Trails {
+        steps: Trail::new(&mut step_slots),
+        lines: Trail::new(&mut line_slots),
+    };
+    let file = history(&calls, &mut answers, &mut trails, &mut ram);
     assert_eq!(rt; is_cold(&file), true);
     let two = Ran {
         steps: 2,
@@ -83,8 +81,10 @@ fn every_call_and_every_refusal(rt: HostRuntime) {
         pin: true,
     };
     let shown = ShownData {
-        address: 256,
-        kind: U8,
+        register: DataRegister {
+            address: 256,
+            kind: U8,
+        },
         bytes: [0; 128],
     };
     assert_eq!(rt;
@@ -132,15 +132,11 @@ fn no_lines(rt: HostRuntime) {
     let mut bytes = [0; 100];
     let mut ram = Ram::new(&mut bytes);
     let mut answers = Trail::new(&mut answer_slots);
-    let mut steps = Trail::new(&mut []);
-    let mut lines = Trail::new(&mut []);
-    let file = history(
-        &[Call::Boot],
-        &mut answers,
-        &mut steps,
-        &mut lines,
-        &mut ram,
-    );
+    let mut trails = Trails {
+        steps: Trail::new(&mut []),
+        lines: Trail::new(&mut []),
+    };
+    let file = history(&[Call::Boot], &mut answers, &mut trails, &mut ram);
     assert_eq!(rt; is_cold(&file), true);
     assert_eq!(rt; answer_slots, [Err(Refusal::NoLines)]);
 }
@@ -152,10 +148,12 @@ fn no_space_for_answers(rt: HostRuntime) {
     let mut bytes = memory();
     let mut ram = Ram::new(&mut bytes);
     let mut answers = Trail::new(&mut answer_slots);
-    let mut steps = Trail::new(&mut []);
-    let mut lines = Trail::new(&mut []);
+    let mut trails = Trails {
+        steps: Trail::new(&mut []),
+        lines: Trail::new(&mut []),
+    };
     let calls = [Call::Boot, Call::Run(2), Call::Halt];
-    let file = history(&calls, &mut answers, &mut steps, &mut lines, &mut ram);
+    let file = history(&calls, &mut answers, &mut trails, &mut ram);
     assert_eq!(rt; is_cold(&file), false);
     let two = Ran {
         steps: 2,
@@ -174,18 +172,18 @@ fn traces_share_their_trails(rt: HostRuntime) {
     let mut bytes = memory();
     let mut ram = Ram::new(&mut bytes);
     let mut answers = Trail::new(&mut answer_slots);
-    let mut steps = Trail::new(&mut step_slots);
-    let mut lines = Trail::new(&mut line_slots);
+    let mut trails = Trails {
+        steps: Trail::new(&mut step_slots),
+        lines: Trail::new(&mut line_slots),
+    };
     let half = Call::Trace {
         limit: 2,
-        steps: 9,
-        lines: 9,
+        most: Slots { steps: 9, lines: 9 },
     };
     history(
         &[Call::Boot, half, half],
         &mut answers,
-        &mut steps,
-        &mut lines,
+        &mut trails,
         &mut ram,
     );
     let one = Ran {
