@@ -1,8 +1,8 @@
 -- The text of a script, line by line.
 use Rattle.std.proofs.Common.{◌≡◌, ℕ, List, [], ◌∷◌, ◌++◌, codes, drop, take, length, refl, arith, Result, Option, Some, None}
 use Rattle.flat.specs.declared.records.StepRecord.{StepRecord}
-use Rattle.history.specs.declared.answer.Answer.{Answer}
-use Rattle.history.specs.declared.call.Call.{Call}
+use Rattle.flat.specs.declared.answer.Answer.{Answer}
+use Rattle.flat.specs.declared.call.Call.{Call}
 use Rattle.refusal.specs.declared.Refusal.{Refusal}
 use Rattle.telling.specs.Reports.{answered_text, made, script_text, sent}
 

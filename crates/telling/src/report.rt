@@ -5,8 +5,7 @@ ghost use Rattle.telling.specs.Entries.{entry_text, left_text};
 
 use crate::answers::AnswerText;
 use crate::records::{RecordText, SentText};
-use flat::StepRecord;
-use history::{Answer, Call};
+use flat::{Answer, Call, StepRecord};
 use refusal::Refusal;
 use std::fmt;
 
@@ -67,7 +66,18 @@ fn made(answer: &Result<Answer, Refusal>) -> usize
 {
     match answer {
         Ok(Answer::Traced { ran, .. }) => ran.steps as usize,
-        _ => 0,
+        Ok(
+            Answer::Booted
+            | Answer::Stepped(_)
+            | Answer::Ran(_)
+            | Answer::Pinned
+            | Answer::Data(_)
+            | Answer::Instruction(_)
+            | Answer::Rest(_)
+            | Answer::Flushed(_)
+            | Answer::Halted(_),
+        )
+        | Err(_) => 0,
     }
 }
 
@@ -77,7 +87,18 @@ fn sent(answer: &Result<Answer, Refusal>) -> usize
 {
     match answer {
         Ok(Answer::Traced { sent, .. }) => *sent,
-        _ => 0,
+        Ok(
+            Answer::Booted
+            | Answer::Stepped(_)
+            | Answer::Ran(_)
+            | Answer::Pinned
+            | Answer::Data(_)
+            | Answer::Instruction(_)
+            | Answer::Rest(_)
+            | Answer::Flushed(_)
+            | Answer::Halted(_),
+        )
+        | Err(_) => 0,
     }
 }
 
