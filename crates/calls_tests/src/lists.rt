@@ -1,8 +1,7 @@
 // Lists of calls.
 use crate::rig::{BLANK, NO_LINE, done, memory};
 use calls::{File, Trails, history};
-use flat::{Answer, Call, Control, DataRegister, Mode, Ran, ShownData, Slots, Stepped};
-use refusal::Refusal;
+use flat::{Answer, Call, Control, DataRegister, Mode, Ran, Refusal, ShownData, Slots, Stepped};
 use store::Ram;
 use trail::Trail;
 use word::ElementType::U8;

@@ -11,8 +11,7 @@ mod tests {
     use crate::poke::Poke;
     use calls::File;
     use file::{DataRegisters, InstructionRegisters, Machine};
-    use flat::{Control, DataRegister, Exception, Mode, ShownData, ShownInstruction};
-    use refusal::Refusal;
+    use flat::{Control, DataRegister, Exception, Mode, Refusal, ShownData, ShownInstruction};
     use store::{OpenBus, Ram, Rom, Store};
     use tags::Register;
     use word::ElementType;
