@@ -84,7 +84,7 @@ moves d after r to false real h e =
     ap (placed r to) (e ∙ ap (λ v. if v && d.touched (line d r) then sent_back (line d r) d else d) h)
     ∙ sym (cond-false _ _ _ real ∙ ap (λ v. placed r to (if v then let_go (line d r) (if d.touched (line d r) then sent_back (line d r) d else d) else d)) h)
 
--- a zero register does not move_to
+-- a zero register does not move
 pub stays_zero : (r : ℕ) (to : DataRegister) (d : Data) → is_zero r ≡ true → d ≡ move_to r to d
 unfolding move_to
 stays_zero r to d h = sym (cond-true _ _ _ h)
@@ -110,7 +110,7 @@ pub blank_set : (registers : List DataRegister) (r i : ℕ) (to : DataRegister) 
 blank_set registers r i to e real blanks =
     (get_or-set_other registers i 0 to blank (grind (arith, nat_tests, e, real)) ∙ blanks.0, get_or-set_other registers i 64 to blank (grind (arith, nat_tests, e, real)) ∙ blanks.1)
 
--- registers with the same names and registers leave the same lines
+-- as the code does it: the old line is left, and the bank moves
 module _ (s : Names) (registers : List DataRegister) (marked marks : ℕ → Bool) (m store : Meaning) (r : ℕ) (to : DataRegister) (within : r < 128) (real : is_zero r ≡ false) (sound : Sound s) (placed_at : Placed s registers) (i : ℕ) (e : i ≡ r) (long : r < length registers) where
   abbrev flat : Data
   flat = data_of s (known registers) marked m

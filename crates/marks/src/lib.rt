@@ -1,6 +1,7 @@
-// Dirty marks: which of the tags 0 to 127 are marked, one bit for each tag in two words, so that
-// the marked tags are counted, and the lowest is found, a word at a time. A tag is a number here, and
-// numbers from 128 on are never marked. It uses no other crate.
+// Marks: which of the tags 0 to 127 are marked, one bit for each tag in two words, so that the marked
+// tags are counted, and the lowest is found, a word at a time. The tags whose lines were written are
+// marked so, and, apart from those, the tags that are free. A tag is a number here, and numbers from 128
+// on are never marked. It uses no other crate.
 #![tactic(auto)]
 
 ghost use Rattle.std.specs.Prelude.{if◌then◌else◌, ◌≡◌, nat_lt, true, false};

@@ -2,8 +2,9 @@
 // one tag, which holds the line's number, its 128 bytes and how many registers carry it. Registers 0
 // and 64 are zero registers: they name no line, carry tag 0, show zeros and never change. One text
 // serves data and instruction registers. Who gives the bytes of a line, and what a write makes of them,
-// are traits, so that neither a store nor an operation is known here. It uses, of
-// the flat machine, which registers there are and what they name, and how marks are counted.
+// are traits, so that neither a store nor an operation is known here. It uses, of the flat machine,
+// which registers there are, what they name and the line of an address, and marks for the tags that are
+// free.
 #![tactic(auto)]
 
 mod bank;
