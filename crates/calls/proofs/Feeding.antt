@@ -3,7 +3,7 @@ use Rattle.std.proofs.Common.{◌≡◌, ◌<◌, ℕ, suc, ◌+◌, ◌-◌, Li
 use Rattle.std.proofs.Math.Seq.{take-suc}
 use Rattle.std.proofs.lemmas.List.{length-append, length-take, take_min}
 use Rattle.std.proofs.lemmas.List.Sums.{fold-append}
-use Rattle.refusal.specs.declared.Refusal.{Refusal}
+use Rattle.flat.specs.declared.refusal.Refusal.{Refusal}
 use Rattle.store.specs.Meaning.{Meaning, Sound}
 use Rattle.trail.specs.declared.Trail.{Trail}
 use Rattle.trail.specs.Trails.{space as space_of, Added, Adds}

@@ -1,8 +1,8 @@
 -- What a file stands for on a store: the one definition by which the engine is held to the flat machine.
 use Rattle.std.specs.Prelude.{◌≡◌, true, Ok, Err, Result}
 use Rattle.std.specs.Borrow.{Bor}
-use Rattle.refusal.specs.declared.Refusal.{Refusal}
-use Rattle.refusal.specs.declared.Refusal.TheVariants.{Cold as ColdRefusal}
+use Rattle.flat.specs.declared.refusal.Refusal.{Refusal}
+use Rattle.flat.specs.declared.refusal.Refusal.TheVariants.{Cold as ColdRefusal}
 use Rattle.store.specs.Meaning.{Meaning}
 use Rattle.flat.specs.Calls.{Flat, Traced, cold}
 use Rattle.flat.specs.declared.records.Ran.{Ran}

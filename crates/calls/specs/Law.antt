@@ -8,7 +8,7 @@
 --
 -- Every list of calls is the beginning of longer ones, and a beginning is a list of its own: so the law is said of what stands after each call.
 use Rattle.std.specs.Prelude.{◌≡◌, ◌↔◌, ℕ, ◌<◌, false, List, [], ◌∷◌, ◌++◌, Result, slice_index}
-use Rattle.refusal.specs.declared.Refusal.{Refusal}
+use Rattle.flat.specs.declared.refusal.Refusal.{Refusal}
 use Rattle.store.specs.Meaning.{Meaning, Sound}
 use Rattle.flat.specs.Calls.{backing}
 use Rattle.flat.specs.Fed.{Fed, fed, next}

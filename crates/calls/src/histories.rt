@@ -7,8 +7,7 @@ ghost use Rattle.calls.specs.Trails.{space};
 
 use crate::file::File;
 use crate::trails::Trails;
-use flat::{Answer, Call};
-use refusal::Refusal;
+use flat::{Answer, Call, Refusal};
 use store::Store;
 use trail::Trail;
 
