@@ -1,6 +1,6 @@
 // Images loaded into RAM, and beneath a fuse: which are refused, with which number, at which byte
 // place and for which line, and which bytes an accepted one writes. Records are byte arrays, and
-// every answer stands as a number that was written by hand. It uses `image`, `store` and `refusal`.
+// every answer stands as a number that was written by hand. It uses `image` and `store`.
 #![tactic(auto)]
 
 #[cfg(test)]

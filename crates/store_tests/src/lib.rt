@@ -1,6 +1,6 @@
 // Stores and layers at work: which lines RAM, ROM, open bus, fuse and split have, what they read,
 // which writes they take, and what they refuse with which line. Every answer here stands as a
-// number that was written by hand. It uses `store` and `refusal`.
+// number that was written by hand. It uses `store`.
 #![tactic(auto)]
 
 #[cfg(test)]

@@ -1,13 +1,11 @@
 // Trails at work on two kinds of record, a number and a struct: what a caller knows of its slots
-// once the trail has ended, and short runs. It uses `trail` and `refusal`.
+// once the trail has ended, and short runs. It uses `trail`.
 #![tactic(auto)]
 
 ghost use Rattle.std.specs.Prelude.{◌≡◌, ◌<◌, min, [], ◌∷◌, length, take, MatchResult};
-ghost use Rattle.refusal.specs.declared.Refusal.TheVariants.{FullTrail};
 ghost use Rattle.trail.specs.Trails.{filled};
 
-use refusal::Refusal;
-use trail::Trail;
+use trail::{FullTrail, Trail};
 
 // A record of several fields.
 #[derive(Clone, Copy, PartialEq, Debug)]
@@ -26,8 +24,8 @@ fn keep(slots: &mut [u32], numbers: &[u32]) -> usize
 }
 
 // Sends one record; with no slot at all it is refused and nothing changes.
-fn send(slots: &mut [Sent], sent: Sent) -> Result<(), Refusal>
-    ensures { MatchResult result (λ _. (0 < length slots.old) × (slots.new ≡ filled slots.old (sent ∷ []))) (λ why. (length slots.old ≡ 0) × (why ≡ FullTrail) × (slots.new ≡ slots.old)) }
+fn send(slots: &mut [Sent], sent: Sent) -> Result<(), FullTrail>
+    ensures { MatchResult result (λ _. (0 < length slots.old) × (slots.new ≡ filled slots.old (sent ∷ []))) (λ _. (length slots.old ≡ 0) × (slots.new ≡ slots.old)) }
 {
     let mut trail = Trail::new(slots);
     trail.add(sent)
@@ -42,7 +40,7 @@ mod tests {
         let mut slots: [u32; 0] = [];
         let mut trail = Trail::new(&mut slots);
         assert_eq!(rt; trail.space(), 0);
-        assert_eq!(rt; trail.add(7), Err(Refusal::FullTrail));
+        assert_eq!(rt; trail.add(7), Err(FullTrail));
     }
 
     #[test]
@@ -52,7 +50,7 @@ mod tests {
         assert_eq!(rt; trail.add(5), Ok(()));
         assert_eq!(rt; trail.space(), 1);
         assert_eq!(rt; trail.add(6), Ok(()));
-        assert_eq!(rt; trail.add(7), Err(Refusal::FullTrail));
+        assert_eq!(rt; trail.add(7), Err(FullTrail));
         assert_eq!(rt; slots, [5, 6]);
     }
 

@@ -1,14 +1,13 @@
 // Words and the operations that they hold, written by hand from docs/words.md: a word in the tables
-// below is in bits, from bit 31 down, with a _ between its fields. It uses `word` and `refusal`.
+// below is in bits, from bit 31 down, with a _ between its fields. It uses `word`.
 #![tactic(auto)]
 
 #[cfg(test)]
 mod tests {
-    use refusal::Refusal;
     use std::process::Abort;
     use word::{
-        Arith, ElementType, Form, Operation, Reduction, Special, UnknownNumber, code, decode,
-        recode, redecode, words,
+        Arith, ElementType, Form, NoWord, Operation, Reduction, Special, UnknownNumber, code,
+        decode, recode, redecode, words,
     };
 
     // The word holds the operation: each is read and written as the other, and both come back.
@@ -27,7 +26,7 @@ mod tests {
 
     // No word holds the operation.
     fn check_unheld(rt: &impl Abort, op: Operation) {
-        assert_eq!(rt; code(op), Err(Refusal::NoWord));
+        assert_eq!(rt; code(op), Err(NoWord));
         assert_eq!(rt; redecode(op), None);
     }
 
