@@ -3,7 +3,7 @@ use Rattle.std.proofs.Common.{◌≡◌, ◌<◌, ℕ, suc, ◌+◌, ◌-◌, Li
 use Rattle.std.proofs.Math.Seq.{take-suc}
 use Rattle.std.proofs.lemmas.List.{length-append, length-take, take_min}
 use Rattle.std.proofs.lemmas.List.Sums.{fold-append}
-use Rattle.refusal.specs.declared.Refusal.{Refusal}
+use Rattle.flat.specs.declared.refusal.Refusal.{Refusal}
 use Rattle.store.specs.Meaning.{Meaning, Sound}
 use Rattle.trail.specs.declared.Trail.{Trail}
 use Rattle.trail.specs.Trails.{space as space_of, Added, Adds}
@@ -21,8 +21,8 @@ use Rattle.calls.specs.Files.{stands}
 use Rattle.calls.specs.Law.{Answers, Continues, Lawful, StoreKept}
 use Rattle.calls.specs.Made.{Makes}
 use Rattle.calls.specs.Trails.{Keeps, space}
-use Rattle.calls.specs.declared.file.File.{File}
-use Rattle.calls.specs.declared.file.File.TheVariants.{Cold}
+use Rattle.calls.specs.declared.files.File.{File}
+use Rattle.calls.specs.declared.files.File.TheVariants.{Cold}
 use Rattle.calls.specs.declared.trails.Trails.{Trails}
 
 -- nothing was added to the trails, or more was

@@ -1,15 +1,15 @@
 -- What a file stands for on a store: the one definition by which the engine is held to the flat machine.
 use Rattle.std.specs.Prelude.{◌≡◌, true, Ok, Err, Result}
 use Rattle.std.specs.Borrow.{Bor}
-use Rattle.refusal.specs.declared.Refusal.{Refusal}
-use Rattle.refusal.specs.declared.Refusal.TheVariants.{Cold as ColdRefusal}
+use Rattle.flat.specs.declared.refusal.Refusal.{Refusal}
+use Rattle.flat.specs.declared.refusal.Refusal.TheVariants.{Cold as ColdRefusal}
 use Rattle.store.specs.Meaning.{Meaning}
 use Rattle.flat.specs.Calls.{Flat, Traced, cold}
 use Rattle.flat.specs.declared.records.Ran.{Ran}
 use Rattle.file.specs.Machine.{stands as machine_stands}
-use Rattle.calls.specs.declared.file.File.{File}
+use Rattle.calls.specs.declared.files.File.{File}
 use Rattle.file.specs.declared.machine.Machine.{Machine}
-use Rattle.calls.specs.declared.file.File.TheVariants.{Cold, Warm}
+use Rattle.calls.specs.declared.files.File.TheVariants.{Cold, Warm}
 
 -- A cold file stands for the cold machine, a warm one for that of its registers.
 unfoldable pub stands : File → Meaning → Flat

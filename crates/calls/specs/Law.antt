@@ -8,7 +8,7 @@
 --
 -- Every list of calls is the beginning of longer ones, and a beginning is a list of its own: so the law is said of what stands after each call.
 use Rattle.std.specs.Prelude.{◌≡◌, ◌↔◌, ℕ, ◌<◌, false, List, [], ◌∷◌, ◌++◌, Result, slice_index}
-use Rattle.refusal.specs.declared.Refusal.{Refusal}
+use Rattle.flat.specs.declared.refusal.Refusal.{Refusal}
 use Rattle.store.specs.Meaning.{Meaning, Sound}
 use Rattle.flat.specs.Calls.{backing}
 use Rattle.flat.specs.Fed.{Fed, fed, next}
@@ -21,8 +21,8 @@ use Rattle.tags.specs.Invariants.{carriers}
 use Rattle.tags.specs.declared.bank.Bank.{Bank}
 use Rattle.calls.specs.Files.{stands}
 use Rattle.calls.specs.Trails.{Keeps, space}
-use Rattle.calls.specs.declared.file.File.{File}
-use Rattle.calls.specs.declared.file.File.TheVariants.{Cold, Warm}
+use Rattle.calls.specs.declared.files.File.{File}
+use Rattle.calls.specs.declared.files.File.TheVariants.{Cold, Warm}
 use Rattle.calls.specs.declared.trails.Trails.{Trails}
 
 -- a. h is what the flat machine was fed: what traces kept is in the trails, and the file stands for its machine on the store.

@@ -1,6 +1,6 @@
 -- What the code of a call has done.
 use Rattle.std.specs.Prelude.{◌≡◌, Result}
-use Rattle.refusal.specs.declared.Refusal.{Refusal}
+use Rattle.flat.specs.declared.refusal.Refusal.{Refusal}
 use Rattle.flat.specs.Calls.{Flat}
 use Rattle.flat.specs.Fed.{Told}
 use Rattle.flat.specs.declared.answer.Answer.{Answer}

@@ -8,10 +8,9 @@ ghost use Rattle.calls.specs.Law.{Continues};
 ghost use Rattle.calls.specs.Made.{Makes};
 ghost use Rattle.calls.specs.Trails.{space};
 
-use crate::file::File;
+use crate::files::File;
 use crate::trails::Trails;
-use flat::{Answer, Call, Slots};
-use refusal::Refusal;
+use flat::{Answer, Call, Refusal, Slots};
 use store::Store;
 
 // Shows a data register. The store is handed in only for what the file stands for on it.

@@ -5,12 +5,12 @@
 #![tactic(auto)]
 
 mod call;
-mod file;
+mod files;
 mod histories;
 mod loops;
 mod trails;
 
-pub use file::File;
+pub use files::File;
 pub use histories::history;
 pub use loops::MOST_STEPS;
 pub use trails::Trails;

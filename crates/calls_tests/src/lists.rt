@@ -1,13 +1,13 @@
 // Lists of calls.
 use crate::rig::{BLANK, NO_LINE, done, memory};
 use calls::{File, Trails, history};
-use flat::{Answer, Call, Control, DataRegister, Mode, Ran, ShownData, Slots, Stepped};
-use refusal::Refusal;
+use flat::{Answer, Call, Control, DataRegister, Mode, Ran, Refusal, ShownData, Slots, Stepped};
 use store::Ram;
 use trail::Trail;
 use word::ElementType::U8;
 
-const UNANSWERED: Result<Answer, Refusal> = Err(Refusal::FullTrail);
+// What a slot holds that got no answer.
+const UNANSWERED: Result<Answer, Refusal> = Ok(Answer::Halted(NO_LINE));
 
 fn is_cold(file: &File) -> bool {
     match file {

@@ -1,8 +1,7 @@
 // The call trace.
 use crate::rig::{BLANK, NO_LINE, done, memory};
 use calls::{File, MOST_STEPS, Trails};
-use flat::{Exception, Mode, Ran, Slots, StepRecord, Stepped};
-use refusal::Refusal;
+use flat::{Exception, Mode, Ran, Refusal, Slots, StepRecord, Stepped};
 use store::Ram;
 use trail::Trail;
 

@@ -19,19 +19,20 @@ const KINDS: [ElementType; 8] = [
     ElementType::S64,
 ];
 
-const OPERATIONS: [Arith; 12] = [
-    Arith::Add,
-    Arith::Sub,
-    Arith::Slt,
-    Arith::Mul,
-    Arith::And,
-    Arith::Or,
-    Arith::Xor,
-    Arith::Shl,
-    Arith::Shr,
-    Arith::Rol,
-    Arith::Ror,
-    Arith::Addr,
+// Each operation under the name that its rows have. Addr, address add, is add with an address as x.
+const OPERATIONS: [(&str, Arith); 12] = [
+    ("Add", Arith::Add),
+    ("Sub", Arith::Sub),
+    ("Slt", Arith::Slt),
+    ("Mul", Arith::Mul),
+    ("And", Arith::And),
+    ("Or", Arith::Or),
+    ("Xor", Arith::Xor),
+    ("Shl", Arith::Shl),
+    ("Shr", Arith::Shr),
+    ("Rol", Arith::Rol),
+    ("Ror", Arith::Ror),
+    ("Addr", Arith::Add),
 ];
 
 const REDUCTIONS: [Reduction; 5] = [
@@ -86,9 +87,9 @@ fn print_divisions(rt: &HostRuntime, kind: ElementType, x: i128) -> io::Result<(
 fn print_scalars(rt: &HostRuntime, kind: ElementType) -> io::Result<()> {
     print!(rt; "Cast {kind:?}:")?;
     print_row(rt, |x| cast(kind, x))?;
-    for op in OPERATIONS {
+    for (name, op) in OPERATIONS {
         for x in EDGES {
-            print!(rt; "{op:?} {kind:?} {x}:")?;
+            print!(rt; "{name} {kind:?} {x}:")?;
             print_row(rt, |y| compute(op, kind, x, y))?;
         }
     }
@@ -117,9 +118,9 @@ fn print_vectors(rt: &HostRuntime, kind: ElementType) -> io::Result<()> {
     let (mut x, mut y, mut out) = (zeros(), zeros(), zeros());
     set_edges(&mut x, kind, 0, 3);
     set_edges(&mut y, kind, 5, 11);
-    for op in OPERATIONS {
+    for (name, op) in OPERATIONS {
         vector(op, kind, &x, &y, &mut out);
-        print!(rt; "{op:?}.v {kind:?} ")?;
+        print!(rt; "{name}.v {kind:?} ")?;
         print_line(rt, &out)?;
     }
     vector_addr(kind, 4294967295, &y, &mut out);

@@ -104,7 +104,8 @@ pub(crate) fn store<S: Store>(
     ensures data { stands machine.new (S.meaning store.new) ≡ with_data (data_after (StoreOp kind a b i) (stands machine.old (S.meaning store.old))) (stands machine.old (S.meaning store.old)) }
     ensures bus { result ≡ store_bus a b i (stands machine.old (S.meaning store.old)) }
 {
-    let to = DataRegister::loaded(kind, target(machine, b, i));
+    let address = target(machine, b, i);
     let register = register(machine, a);
+    let to = DataRegister::loaded(kind, address);
     machine.registers.carry(register, to, store)
 }

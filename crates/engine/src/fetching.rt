@@ -109,14 +109,7 @@ fn fetch_lines<S: Store>(machine: &mut Machine, a: u8, start: u32, j: u8, store:
 
 // Moves on, and then puts instruction registers on lines in a row. Where they start is read before.
 #[tactic(auto, using(crate::proofs::Lines::fetches))]
-pub(crate) fn fetch<S: Store>(
-    machine: &mut Machine,
-    a: u8,
-    b: u8,
-    i: i16,
-    j: u8,
-    store: &S,
-) -> Bus
+pub(crate) fn fetch<S: Store>(machine: &mut Machine, a: u8, b: u8, i: i16, j: u8, store: &S) -> Bus
     ensures machine { stands machine.new (S.meaning store.now) ≡ carried_out (Fetch a b i j) (stands machine.old (S.meaning store.now)) }
     ensures bus { result ≡ bus_of (Fetch a b i j) (stands machine.old (S.meaning store.now)) }
 {

@@ -20,9 +20,7 @@ use crate::operands::{
 };
 use crate::rules::rules_of;
 use file::Machine;
-use flat::{
-    Divisor, Even, Exception, Goes, Mode, Narrow, Needs, Writes, line_of, offset_of,
-};
+use flat::{Divisor, Even, Exception, Goes, Mode, Narrow, Needs, Writes, line_of, offset_of};
 use line::{has_zero, same_width};
 use scalar::is_zero;
 use store::Store;

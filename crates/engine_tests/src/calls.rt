@@ -3,8 +3,7 @@ use crate::rig::{
     LINES, check_at, check_code, check_data, check_stored, dup, hand, laid, load, memory, w,
 };
 use calls::{File, MOST_STEPS};
-use flat::{Exception, Mode, Ran, Stepped};
-use refusal::Refusal;
+use flat::{Exception, Mode, Ran, Refusal, Stepped};
 use store::Ram;
 use word::ElementType::U8;
 use word::Operation;

@@ -1,13 +1,20 @@
--- Taking a line's bytes along: copying a register's line onto another and then going there is going there and then writing what it showed.
-use Rattle.std.proofs.Common.{◌≡◌, ℕ, ◌/◌, ◌<◌, Bool, true, false, ◌==◌, if◌then◌else◌, List, Some, None, Option, ap, refl, sym, ◌∙◌, arith}
+-- Taking a line's bytes along: copying a register's line onto another and then going there is going there and then writing what it showed. So it does not matter which bytes the line there had.
+use Rattle.std.proofs.Common.{◌≡◌, ℕ, ◌/◌, ◌<◌, Bool, true, false, not, ◌&&◌, ◌==◌, if◌then◌else◌, nat_lt, List, length, slice_set, Some, None, Option, unwrap_or, is_none, ap, refl, sym, subst, ◌∙◌, arith}
 use Rattle.std.proofs.Math.Path.{fun_ext}
 use Rattle.std.proofs.lemmas.Bool.{cond-true, cond-false}
 use Rattle.std.proofs.lemmas.Bool.Decides.{nat_tests}
+use Rattle.store.specs.Meaning.{Meaning}
 use Rattle.flat.specs.Data.{Data, given, accepted, shown, written, write, sent_back, left, let_go, leaves, line, placed, move_to, copied}
-use Rattle.flat.specs.Registers.{at, is_zero, line_of}
+use Rattle.flat.specs.Registers.{at, is_zero, line_of, shared}
 use Rattle.flat.specs.declared.registers.DataRegister.{DataRegister}
-use Rattle.tags.specs.Names.{Names, Sound, Goes, gone, tag_of}
+use Rattle.marks.specs.Marks.{with_mark}
+use Rattle.tags.specs.Invariants.{no_bytes}
+use Rattle.tags.specs.Names.{Names, Sound, Goes, Carries, gone, tag_of, written as written_names}
+use Rattle.file.specs.Data.{sends}
+use Rattle.file.specs.Standing.{data_of, known, Placed, Quiet}
 use Rattle.file.proofs.DataSide.{same_data}
+use Rattle.file.proofs.Sending.{go_placed, go_quiet, go_stands}
+use Rattle.file.proofs.Writing.{shows, write_placed, write_quiet, write_stands}
 
 -- of two lines, written one after the other in either order
 at_other : {X : Type 0} (f : ℕ → X) (n k : ℕ) (x y : X) (q : ℕ) → (n == k) ≡ false → at (at f n x) k y q ≡ at (at f k y) n x q
@@ -84,19 +91,95 @@ module _ (d : Data) (r : ℕ) (to : DataRegister) (real : is_zero r ≡ false) w
       ∙ (ap (λ (x : Data). written (line x r) (shown d r) x) (move_real d)
       ∙ ap (λ (n : ℕ). written n (shown d r) (placed r to (if leaves r to.address d then left (line d r) d else d))) (moved_line (leaves r to.address d))))))
 
--- the bytes of the tag that a register carried are still there
-pub kept_bytes : (s after : Names) (r a : ℕ) (bs : List ℕ) → r < 128 → is_zero r ≡ false → Sound s → Goes r a bs s after → after.bytes (tag_of s r) ≡ s.bytes (tag_of s r)
-unfolding gone
-kept_bytes s after r a bs within real sound goes = ap (λ (x : Names). x.bytes (tag_of s r)) goes.2 ∙ by_tag (s.tag (a / 128)) refl
-  where
-    by_tag : (o : Option ℕ) → s.tag (a / 128) ≡ o → (gone r a goes.0 bs s).bytes (tag_of s r) ≡ s.bytes (tag_of s r)
-    by_tag None h =
-        let l = sound.linked r within real in
-        let f = (goes.1 real h).2 (s.address r / 128) in
-        grind (arith, nat_tests, real, h, l, f)
-    by_tag (Some t) h = grind (arith, nat_tests, real, h)
-
 -- a zero register neither copies nor moves
 pub carried_zero : (d : Data) (r : ℕ) (to : DataRegister) → is_zero r ≡ true → d ≡ move_to r to (copied r to.address d)
 unfolding move_to copied
 carried_zero d r to h = sym (cond-true _ _ _ h ∙ cond-true _ _ _ h)
+
+-- writing the line that a register went to: what its tag had before is not seen
+module _ (s : Names) (r a u : ℕ) (bs : List ℕ) (real : is_zero r ≡ false) where
+  abbrev there : List ℕ → Names
+  there x = record {
+    address = λ q. if q == r then a else s.address q;
+    tag = λ n. if n == a / 128 then Some (unwrap_or (s.tag n) u) else if n == s.address r / 128 && not (shared s.address r) then None else s.tag n;
+    bytes = λ t. if t == u && is_none (s.tag (a / 128)) then x else s.bytes t;
+  }
+
+  is_there : (x : List ℕ) → gone r a u x s ≡ there x
+  unfolding gone
+  is_there x = cond-false _ _ _ real
+
+  abbrev wrote : Names → Names
+  wrote n = record { address = n.address; tag = n.tag; bytes = λ t. if t == tag_of n r then bs else n.bytes t }
+
+  is_wrote : (n : Names) → written_names r bs n ≡ wrote n
+  unfolding written_names
+  is_wrote n = cond-false _ _ _ real
+
+  other_tag : (x : List ℕ) (t : ℕ) (o : Option ℕ) → s.tag (a / 128) ≡ o → (t == tag_of (there x) r) ≡ false → (t == u && is_none (s.tag (a / 128))) ≡ false
+  other_tag x t None e h = grind (arith, nat_tests, real, e, h)
+  other_tag x t (Some v) e h = grind (arith, nat_tests, real, e, h)
+
+  bytes_over : (x y : List ℕ) (t : ℕ) (z : Bool) → (t == tag_of (there x) r) ≡ z → (if z then bs else (there x).bytes t) ≡ (if z then bs else (there y).bytes t)
+  bytes_over x y t true h = refl
+  bytes_over x y t false h =
+      ap (λ (b : Bool). if b then x else s.bytes t) (other_tag x t (s.tag (a / 128)) refl h)
+      ∙ sym (ap (λ (b : Bool). if b then y else s.bytes t) (other_tag x t (s.tag (a / 128)) refl h))
+
+  same_wrote : (x y : List ℕ) → wrote (there x) ≡ wrote (there y)
+  same_wrote x y =
+      let f = fun_ext {f = (wrote (there x)).bytes} {g = (wrote (there y)).bytes} (λ t. bytes_over x y t (t == tag_of (there x) r) refl) in
+      ap (λ (b : ℕ → List ℕ). let n : Names = record { address = (there x).address; tag = (there x).tag; bytes = b } in n) f
+
+  over : (x y : List ℕ) → written_names r bs (gone r a u x s) ≡ written_names r bs (gone r a u y s)
+  over x y =
+      ap (written_names r bs) (is_there x)
+      ∙ (is_wrote (there x) ∙ (same_wrote x y ∙ sym (ap (written_names r bs) (is_there y) ∙ is_wrote (there y))))
+
+-- as the code does it: the old line is left, the bank carries its bytes, and the new tag is marked
+module _ (s after : Names) (registers : List DataRegister) (marked marks new_marks : ℕ → Bool) (m store : Meaning) (r : ℕ) (to : DataRegister) (within : r < 128) (real : is_zero r ≡ false) (sound : Sound s) (placed_at : Placed s registers) (i : ℕ) (e : i ≡ r) (long : r < length registers) (carries : Carries r to.address s after) (sound_after : Sound after) (t : ℕ) (tag : t ≡ tag_of after r) where
+  abbrev flat : Data
+  flat = data_of s (known registers) marked m
+
+  abbrev bytes : List ℕ
+  bytes = s.bytes (tag_of s r)
+
+  abbrev went : Names
+  went = gone r to.address carries.0 (given store (line_of to.address)) s
+
+  went_goes : Goes r to.address (given store (line_of to.address)) s went
+  went_goes = (carries.0, carries.1, refl)
+
+  is_written : after ≡ written_names r bytes went
+  is_written = carries.2 ∙ over s r to.address carries.0 bytes real no_bytes (given store (line_of to.address))
+
+  is_after : after ≡ wrote went r to.address carries.0 bytes real went
+  is_after = is_written ∙ is_wrote went r to.address carries.0 bytes real went
+
+  sound_went : Sound (wrote went r to.address carries.0 bytes real went)
+  sound_went = subst Sound is_after sound_after
+
+  linked : went.tag (line_of (went.address r)) ≡ Some (tag_of went r)
+  linked = sound_went.linked r within real
+
+  small : tag_of went r < 128
+  small = (sound_went.tags (line_of (went.address r)) (tag_of went r) linked).1
+
+  tag_went : t ≡ tag_of went r
+  tag_went = tag ∙ ap (λ (x : Names). tag_of x r) is_after
+
+  pub carry_placed : Placed after (slice_set registers i to)
+  carry_placed =
+      write_placed went after marks marks r t bytes real linked small tag_went is_written (known (slice_set registers i to)) (go_placed s registers marked marks m store r to within real sound placed_at i e long went went_goes)
+
+  module _ (quiet : Quiet s marks) (clean : leaves r to.address flat ≡ true → marks (tag_of s r) ≡ false) (inserted : new_marks ≡ (if nat_lt t 128 then with_mark marks t true else marks)) where
+    pub carry_stands : data_of s (known registers) marks store ≡ sends r to.address flat → data_of after (known (slice_set registers i to)) new_marks store ≡ move_to r to (copied r to.address flat)
+    carry_stands f =
+        write_stands went after marks new_marks r t bytes real linked small tag_went is_written inserted (known (slice_set registers i to)) (go_placed s registers marked marks m store r to within real sound placed_at i e long went went_goes r) sound_went.one store
+        ∙ (ap (write r bytes) (go_stands s registers marked marks m store r to within real sound placed_at i e long went went_goes f quiet clean)
+        ∙ (ap (λ (b : List ℕ). write r b (move_to r to flat)) (shows s (known registers) marked m r (placed_at r) within sound)
+        ∙ sym (carried flat r to real)))
+
+    pub carry_quiet : Quiet after new_marks
+    carry_quiet =
+        write_quiet went after marks new_marks r t bytes real linked small tag_went is_written inserted (go_quiet s registers marked marks m store r to within real sound placed_at i e long went went_goes quiet clean)

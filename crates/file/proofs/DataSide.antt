@@ -3,7 +3,6 @@ use Rattle.std.proofs.Common.{◌≡◌, ◌≢◌, ℕ, Bool, true, false, not,
 use Rattle.std.proofs.Math.Path.{fun_ext}
 use Rattle.std.proofs.lemmas.Bool.{cond-false, true≢false}
 use Rattle.std.proofs.lemmas.Bool.Decides.{nat_tests}
-use Rattle.word.specs.declared.element.ElementType.{ElementType}
 use Rattle.store.specs.Meaning.{Meaning}
 use Rattle.flat.specs.Data.{Data, given, accepted, sent_back, let_go, placed, written}
 use Rattle.flat.specs.Registers.{at, is_zero, line_of, shared}
@@ -25,7 +24,7 @@ given_other m n k b h = grind (arith, nat_tests, h)
 abbrev pub OneLine : Names → Type 0
 OneLine s = (n k t : ℕ) → s.tag n ≡ Some t → s.tag k ≡ Some t → n ≡ k
 
-module _ (s : Names) (kinds : ℕ → ElementType) (marked : ℕ → Bool) (m : Meaning) (n t : ℕ) (named : s.tag n ≡ Some t) (one : OneLine s) where
+module _ (s : Names) (registers : ℕ → DataRegister) (marked : ℕ → Bool) (m : Meaning) (n t : ℕ) (named : s.tag n ≡ Some t) (one : OneLine s) where
   unmarked_at : (k : ℕ) (o : Option ℕ) → s.tag k ≡ o → of_tag o (with_mark marked t false) false ≡ (if k == n then false else of_tag o marked false)
   unfolding with_mark
   unmarked_at k None h = grind (arith, nat_tests)
@@ -36,7 +35,7 @@ module _ (s : Names) (kinds : ℕ → ElementType) (marked : ℕ → Bool) (m : 
   memory_at k (Some u) h = refl
 
   -- sending back the line of a tag
-  pub sends_back : data_of s kinds (with_mark marked t false) (accepted m n (s.bytes t)) ≡ sent_back n (data_of s kinds marked m)
+  pub sends_back : data_of s registers (with_mark marked t false) (accepted m n (s.bytes t)) ≡ sent_back n (data_of s registers marked m)
   unfolding data_of sent_back
   sends_back =
       same_data _ _ refl
@@ -45,7 +44,7 @@ module _ (s : Names) (kinds : ℕ → ElementType) (marked : ℕ → Bool) (m : 
       (ap (λ (o : Option ℕ). accepted m n (of_tag o s.bytes (given m n))) (sym named))
 
 -- registers and tags after register r went to address a, where the line that it leaves is not marked
-module _ (s : Names) (kinds : ℕ → ElementType) (marked : ℕ → Bool) (m : Meaning) (r u a : ℕ) (real : is_zero r ≡ false) where
+module _ (s : Names) (registers : ℕ → DataRegister) (marked : ℕ → Bool) (m : Meaning) (r u a : ℕ) (real : is_zero r ≡ false) where
   abbrev b : List ℕ
   b = given m (line_of a)
 
@@ -74,21 +73,17 @@ module _ (s : Names) (kinds : ℕ → ElementType) (marked : ℕ → Bool) (m : 
     gone_touched k None (Some v) h g = grind (arith, nat_tests, h, g, real, clean)
     gone_touched k (Some t) (Some v) h g = grind (arith, nat_tests, h, g, real, clean)
 
-    gone_register : (kind : ElementType) (q : ℕ) → record { address = after.address q; kind = at kinds r kind q } ≡ at (λ (k : ℕ). let x : DataRegister = record { address = s.address k; kind = kinds k } in x) r (record { address = a; kind = kind }) q
-    unfolding gone
-    gone_register kind q = grind (arith, nat_tests, real)
-
-    went : (kind : ElementType) (v : Bool) → lv ≡ v → data_of after (at kinds r kind) marked m ≡ placed r (record { address = a; kind = kind }) (if v then let_go (line_of (s.address r)) (data_of s kinds marked m) else data_of s kinds marked m)
+    went : (to : DataRegister) (v : Bool) → lv ≡ v → data_of after (at registers r to) marked m ≡ placed r to (if v then let_go (line_of (s.address r)) (data_of s registers marked m) else data_of s registers marked m)
     unfolding data_of let_go
-    went kind true h = same_data _ _ (fun_ext (gone_register kind)) (fun_ext (λ k. gone_memory true h k (s.tag k) (s.tag (line_of a)) refl refl)) (fun_ext (λ k. gone_touched k (s.tag k) (s.tag (line_of a)) refl refl)) refl
-    went kind false h = same_data _ _ (fun_ext (gone_register kind)) (fun_ext (λ k. gone_memory false h k (s.tag k) (s.tag (line_of a)) refl refl)) (fun_ext (λ k. gone_touched k (s.tag k) (s.tag (line_of a)) refl refl)) refl
+    went to true h = same_data _ _ refl (fun_ext (λ k. gone_memory true h k (s.tag k) (s.tag (line_of a)) refl refl)) (fun_ext (λ k. gone_touched k (s.tag k) (s.tag (line_of a)) refl refl)) refl
+    went to false h = same_data _ _ refl (fun_ext (λ k. gone_memory false h k (s.tag k) (s.tag (line_of a)) refl refl)) (fun_ext (λ k. gone_touched k (s.tag k) (s.tag (line_of a)) refl refl)) refl
 
-    -- register r goes to an address and gets a type
-    pub goes : (kind : ElementType) → data_of after (at kinds r kind) marked m ≡ placed r (record { address = a; kind = kind }) (if lv then let_go (line_of (s.address r)) (data_of s kinds marked m) else data_of s kinds marked m)
-    goes kind = went kind lv refl
+    -- register r goes to an address, and is another register then
+    pub goes : (to : DataRegister) → data_of after (at registers r to) marked m ≡ placed r to (if lv then let_go (line_of (s.address r)) (data_of s registers marked m) else data_of s registers marked m)
+    goes to = went to lv refl
 
 -- writing the line of register r
-module _ (s : Names) (kinds : ℕ → ElementType) (marked : ℕ → Bool) (m : Meaning) (r : ℕ) (bs : List ℕ) (real : is_zero r ≡ false) (linked : s.tag (line_of (s.address r)) ≡ Some (tag_of s r)) (one : OneLine s) where
+module _ (s : Names) (registers : ℕ → DataRegister) (marked : ℕ → Bool) (m : Meaning) (r : ℕ) (bs : List ℕ) (real : is_zero r ≡ false) (linked : s.tag (line_of (s.address r)) ≡ Some (tag_of s r)) (one : OneLine s) where
   abbrev new : Names
   new = record { address = s.address; tag = s.tag; bytes = λ t. if t == tag_of s r then bs else s.bytes t }
 
@@ -105,10 +100,10 @@ module _ (s : Names) (kinds : ℕ → ElementType) (marked : ℕ → Bool) (m : 
   write_touched k None h = grind (arith, nat_tests, h, linked, real)
   write_touched k (Some t) h = grind (arith, nat_tests, h, linked, real, one)
 
-  pub writes : data_of (written_names r bs s) kinds (with_mark marked (tag_of s r) true) m ≡ written (line_of (s.address r)) bs (data_of s kinds marked m)
+  pub writes : data_of (written_names r bs s) registers (with_mark marked (tag_of s r) true) m ≡ written (line_of (s.address r)) bs (data_of s registers marked m)
   unfolding data_of
   writes =
-      ap (λ x. data_of x kinds (with_mark marked (tag_of s r) true) m) is_new
+      ap (λ x. data_of x registers (with_mark marked (tag_of s r) true) m) is_new
       ∙ same_data _ _ refl (fun_ext (λ k. write_memory k (s.tag k) refl)) (fun_ext (λ k. write_touched k (s.tag k) refl)) refl
 
 -- tags that are not in use stay unmarked

@@ -3,9 +3,9 @@ use Rattle.std.proofs.Common.{◌≡◌, ◌≤◌, ℕ, zero, suc, ◌+◌, ◌
 use Rattle.std.proofs.Math.Path.{fun_ext}
 use Rattle.std.proofs.lemmas.Bool.{true≢false}
 use Rattle.std.proofs.lemmas.Bool.Decides.{nat_tests}
-use Rattle.word.specs.declared.element.ElementType.{ElementType}
 use Rattle.store.specs.Meaning.{Meaning}
 use Rattle.flat.specs.Data.{Data, accepted, sent_back, flushed}
+use Rattle.flat.specs.declared.registers.DataRegister.{DataRegister}
 use Rattle.marks.specs.Marks.{none, with_mark, how_many}
 use Rattle.marks.proofs.Counting.{how_many-insert, how_many-remove, how_many-same, how_many-none}
 use Rattle.tags.specs.Names.{Names, IsLineOf}
@@ -106,14 +106,14 @@ none_touched : (o : Option ℕ) → of_tag o none false ≡ false
 none_touched None = refl
 none_touched (Some t) = refl
 
-pub flushed_unmarked : (s : Names) (kinds : ℕ → ElementType) (marked : ℕ → Bool) (m : Meaning) → marked ≡ none → data_of s kinds marked m ≡ flushed (data_of s kinds marked m)
+pub flushed_unmarked : (s : Names) (registers : ℕ → DataRegister) (marked : ℕ → Bool) (m : Meaning) → marked ≡ none → data_of s registers marked m ≡ flushed (data_of s registers marked m)
 unfolding data_of
-flushed_unmarked s kinds marked m e = sym (flushed_none _ (fun_ext (λ n. ap (λ (x : ℕ → Bool). of_tag (s.tag n) x false) e ∙ none_touched (s.tag n))))
+flushed_unmarked s registers marked m e = sym (flushed_none _ (fun_ext (λ n. ap (λ (x : ℕ → Bool). of_tag (s.tag n) x false) e ∙ none_touched (s.tag n))))
 
 -- a line sent back, flushing comes to the same
-pub flushed_on : (s : Names) (kinds : ℕ → ElementType) (marked : ℕ → Bool) (m : Meaning) (d : Data) (n t : ℕ) → s.tag n ≡ Some t → marked t ≡ true → d ≡ sent_back n (data_of s kinds marked m) → flushed d ≡ flushed (data_of s kinds marked m)
+pub flushed_on : (s : Names) (registers : ℕ → DataRegister) (marked : ℕ → Bool) (m : Meaning) (d : Data) (n t : ℕ) → s.tag n ≡ Some t → marked t ≡ true → d ≡ sent_back n (data_of s registers marked m) → flushed d ≡ flushed (data_of s registers marked m)
 unfolding data_of
-flushed_on s kinds marked m d n t named e f = ap flushed f ∙ flushed_rest n _ (ap (λ (o : Option ℕ). of_tag o marked false) named ∙ e)
+flushed_on s registers marked m d n t named e f = ap flushed f ∙ flushed_rest n _ (ap (λ (o : Option ℕ). of_tag o marked false) named ∙ e)
 
 -- fewer are marked once a mark is taken away
 pub fewer : (marked marks : ℕ → Bool) (t last : ℕ) → marked t ≡ true → t < last → marks ≡ with_mark marked t false → how_many marks last < how_many marked last

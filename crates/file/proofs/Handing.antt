@@ -3,10 +3,10 @@ use Rattle.std.proofs.Common.{◌≡◌, ℕ, Bool, true, false, ◌&&◌, if◌
 use Rattle.std.proofs.Math.Path.{fun_ext}
 use Rattle.std.proofs.lemmas.Bool.{true≢false}
 use Rattle.std.proofs.lemmas.Bool.Decides.{nat_tests}
-use Rattle.word.specs.declared.element.ElementType.{ElementType}
 use Rattle.store.specs.Meaning.{Meaning}
 use Rattle.flat.specs.Data.{given, handed}
 use Rattle.flat.specs.Registers.{names, named}
+use Rattle.flat.specs.declared.registers.DataRegister.{DataRegister}
 use Rattle.flat.proofs.Somewhere.{some_decides}
 use Rattle.tags.specs.Names.{Names, Sound}
 use Rattle.file.specs.Standing.{data_of, of_tag}
@@ -33,10 +33,15 @@ touched_at : (marked : ℕ → Bool) (o : Option ℕ) → of_tag o marked false 
 touched_at marked None = refl
 touched_at marked (Some t) = refl
 
-pub hands : (s : Names) (kinds : ℕ → ElementType) (marked : ℕ → Bool) (m other : Meaning) → Sound s → data_of s kinds marked other ≡ handed other (data_of s kinds marked m)
-unfolding data_of handed
-hands s kinds marked m other sound =
-    same_data _ _ refl
-    (fun_ext (λ n. memory_at s m other n (s.tag n) ∙ ap (λ (b : Bool). if b then of_tag (s.tag n) s.bytes (given m n) else given other n) (sym (named_tag s n (s.tag n) (named s.address n) refl refl sound))))
-    (fun_ext (λ n. touched_at marked (s.tag n) ∙ ap (λ (b : Bool). b && of_tag (s.tag n) marked false) (sym (named_tag s n (s.tag n) (named s.address n) refl refl sound))))
-    refl
+module _ (s : Names) (registers : ℕ → DataRegister) (placed : (q : ℕ) → (registers q).address ≡ s.address q) (sound : Sound s) where
+  has_tag : (n : ℕ) → named (λ (q : ℕ). (registers q).address) n ≡ is_some (s.tag n)
+  has_tag n =
+      ap (λ (f : ℕ → ℕ). named f n) (fun_ext placed) ∙ named_tag s n (s.tag n) (named s.address n) refl refl sound
+
+  pub hands : (marked : ℕ → Bool) (m other : Meaning) → data_of s registers marked other ≡ handed other (data_of s registers marked m)
+  unfolding data_of handed
+  hands marked m other =
+      same_data _ _ refl
+      (fun_ext (λ n. memory_at s m other n (s.tag n) ∙ ap (λ (b : Bool). if b then of_tag (s.tag n) s.bytes (given m n) else given other n) (sym (has_tag n))))
+      (fun_ext (λ n. touched_at marked (s.tag n) ∙ ap (λ (b : Bool). b && of_tag (s.tag n) marked false) (sym (has_tag n))))
+      refl

@@ -1,10 +1,10 @@
 pub mod DataSide
 pub mod InstructionSide
 pub mod Flushing
-pub mod Tags
 pub mod Starting
 pub mod Writing
 pub mod Sending
 pub mod Taking
 pub mod Handing
+pub mod Leaving
 pub mod Carrying

@@ -1,6 +1,5 @@
 -- What the data registers of a file stand for on a store.
-use Rattle.std.specs.Prelude.{◌≡◌, ◌<◌, ℕ, true, Some, None, Option, get_or, Bool, not, ◌==◌, ◌&&◌, if◌then◌else◌}
-use Rattle.word.specs.declared.element.ElementType.TheVariants.{U8}
+use Rattle.std.specs.Prelude.{◌≡◌, ◌<◌, ℕ, true, Some, None, Option, Bool, not, ◌==◌, ◌&&◌, if◌then◌else◌}
 use Rattle.store.specs.Meaning.{Meaning}
 use Rattle.flat.specs.Data.{Data, leaves, line, sent_back}
 use Rattle.marks.specs.Marks.{marked, none}
@@ -8,12 +7,12 @@ use Rattle.tags.specs.declared.tag.Tag.{Tag}
 use Rattle.tags.specs.Meaning.{names}
 use Rattle.tags.specs.Names.{Names}
 use Rattle.flat.specs.Registers.{is_zero, line_of, shared}
-use Rattle.file.specs.Standing.{data_of}
+use Rattle.file.specs.Standing.{data_of, known}
 use Rattle.file.specs.declared.data.DataRegisters.{DataRegisters}
 
--- By the names of the bank, the types and the marks.
+-- By the names of the bank, the registers and the marks.
 unfoldable pub stands : DataRegisters → Meaning → Data
-stands d m = data_of (names d.bank) (λ r. get_or d.kinds r U8) (marked d.marks) m
+stands d m = data_of (names d.bank) (known d.registers) (marked d.marks) m
 
 -- What is sent back before register r goes to an address: its line, where it leaves it and it is touched.
 unfoldable pub sends : ℕ → ℕ → Data → Data

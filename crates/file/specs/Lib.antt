@@ -1,5 +1,4 @@
 pub mod Standing
-pub mod Types
 pub mod Data
 pub mod Backing
 pub mod Instructions

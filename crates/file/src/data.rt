@@ -1,10 +1,9 @@
-// The data registers: a bank of them with their types, and a mark on each tag whose line was written.
+// The data registers: a bank of them, what each register is, and a mark on each tag whose line was written.
 ghost use Rattle.std.specs.Prelude.{◌≡◌, length};
-ghost use Rattle.file.specs.Types.{all_u8};
 ghost use Rattle.store.specs.Meaning.{Meaning};
 ghost use Rattle.marks.specs.Marks.{marked};
 ghost use Rattle.tags.specs.Meaning.{names};
-ghost use Rattle.file.specs.Standing.{Quiet};
+ghost use Rattle.file.specs.Standing.{Placed, Quiet, ZerosBlank, all_blank};
 
 use crate::backing::{Backing, give, send, zeros};
 use flat::{Bus, DataRegister, line_of};
@@ -16,10 +15,12 @@ use word::ElementType;
 #[derive(Drop)]
 pub struct DataRegisters {
     bank: Bank,
-    kinds: [ElementType; 128],
+    registers: [DataRegister; 128],
     marks: Marks,
     ghost quiet: { Quiet (names bank) (marked marks) },
-    ghost typed: { length kinds ≡ 128 },
+    ghost sized: { length registers ≡ 128 },
+    ghost placed: { Placed (names bank) registers },
+    ghost zeros_blank: { ZerosBlank registers },
 }
 
 impl DataRegisters {
@@ -39,7 +40,7 @@ impl DataRegisters {
         give(store, 0, &mut line);
         DataRegisters {
             bank: Bank::new(&line),
-            kinds: all_u8(),
+            registers: all_blank(),
             marks: Marks::new(),
         }
     }
@@ -59,15 +60,11 @@ impl DataRegisters {
         self.bank.sound();
     }
 
-    // A register's address and type.
     #[tactic(auto, unfolding(crate::specs::Data::stands, crate::specs::Standing::data_of))]
     pub fn register(&self, register: Register) -> DataRegister
         ensures { (m : Meaning) → result ≡ (stands self.now m).registers register.number }
     {
-        DataRegister {
-            address: self.bank.address(register),
-            kind: self.kinds[usize::from(register.number())],
-        }
+        self.registers[usize::from(register.number())]
     }
 
     // The bytes that a register shows.
@@ -75,7 +72,7 @@ impl DataRegisters {
         ensures { (m : Meaning) → result.now ≡ shown (stands self.now m) register.number }
     {
         self.bank.sound();
-        self.bank.bytes(self.tag(register))
+        self.bank.bytes(self.bank.tag(register))
     }
 
     // The bytes of a line of memory: those of the tag that names it, or else the store's.
@@ -89,14 +86,6 @@ impl DataRegisters {
         }
     }
 
-    // The tag of a register's line, and tag 0 for a zero register.
-    #[tactic(auto, using(crate::proofs::Tags::carries))]
-    fn tag(&self, register: Register) -> Tag
-        ensures { result.number ≡ tag_of (names self.now.bank) register.number }
-    {
-        self.bank.tag(register)
-    }
-
     // Changes the bytes of a register's line where they lie.
     #[tactic(auto, unfolding(crate::specs::Data::stands))]
     pub fn write<C: Change>(&mut self, register: Register, change: &C)
@@ -106,8 +95,8 @@ impl DataRegisters {
             return;
         }
         self.bank.sound();
-        let tag = self.tag(register);
-        self.bank.change(register, change);
+        let tag = self.bank.tag(register);
+        self.bank.write(register, change);
         self.marks.insert(tag.number());
     }
 
@@ -117,7 +106,7 @@ impl DataRegisters {
         requires { (names self.old.bank).tag line ≡ Some tag.number }
         ensures data { stands self.new (S.meaning store.new) ≡ sent_back line (stands self.old (S.meaning store.old)) }
         ensures bank { self.new.bank ≡ self.old.bank }
-        ensures kinds { self.new.kinds ≡ self.old.kinds }
+        ensures registers { self.new.registers ≡ self.old.registers }
         ensures marks { marked self.new.marks ≡ with_mark (marked self.old.marks) tag.number false }
     {
         self.bank.sound();
@@ -131,7 +120,7 @@ impl DataRegisters {
     {
         let leaves = self.bank.is_last(register)
             && line_of(self.bank.address(register)) != line_of(address);
-        leaves && self.marks.contains(self.tag(register).number())
+        leaves && self.marks.contains(self.bank.tag(register).number())
     }
 
     // Where a register is its line's last and goes to another, the line is sent back if it is touched, and
@@ -141,7 +130,7 @@ impl DataRegisters {
         ensures data { stands self.new (S.meaning store.new) ≡ sends register.number address (stands self.old (S.meaning store.old)) }
         ensures sent { result ≡ sent register.number address (stands self.old (S.meaning store.old)) }
         ensures bank { self.new.bank ≡ self.old.bank }
-        ensures kinds { self.new.kinds ≡ self.old.kinds }
+        ensures registers { self.new.registers ≡ self.old.registers }
         ensures clean { leaves register.number address (stands self.old (S.meaning store.old)) ≡ true → marked self.new.marks (tag_of (names self.old.bank) register.number) ≡ false }
     {
         self.bank.sound();
@@ -149,67 +138,39 @@ impl DataRegisters {
             return None;
         }
         let line = line_of(self.bank.address(register));
-        let tag = self.tag(register);
+        let tag = self.bank.tag(register);
         self.send_back(tag, line, store);
         Some(line)
-    }
-
-    // Moves a register, as `move_to` promises. The bytes of the tag that it carried are still there.
-    fn relink<S: Store>(
-        &mut self,
-        register: Register,
-        to: DataRegister,
-        store: &mut S,
-    ) -> Option<u32>
-        ensures data { stands self.new (S.meaning store.new) ≡ move_to register.number to (stands self.old (S.meaning store.old)) }
-        ensures sent { result ≡ sent register.number to.address (stands self.old (S.meaning store.old)) }
-        ensures bytes { (names self.new.bank).bytes (tag_of (names self.old.bank) register.number) ≡ (names self.old.bank).bytes (tag_of (names self.old.bank) register.number) }
-    {
-        if register.is_zero() {
-            return None;
-        }
-        let sent = self.leave(register, to.address, store);
-        self.bank.sound();
-        self.bank.go(register, to.address, &Backing { store });
-        self.kinds[usize::from(register.number())] = to.kind;
-        sent
     }
 
     // Gives a register another type. A zero register stays.
     pub fn retype(&mut self, register: Register, kind: ElementType)
         ensures { stands self.new ≡ (λ m. retype register.number kind (stands self.old m)) }
     {
-        if register.is_zero() {
-            return;
+        if !register.is_zero() {
+            let r = usize::from(register.number());
+            self.registers[r].kind = kind;
         }
-        self.kinds[usize::from(register.number())] = kind;
     }
 
     // Moves a register to an address and a type, and answers what that did on the bus.
-    #[tactic(auto, using(crate::proofs::Sending::as_bus))]
     pub fn move_to<S: Store>(&mut self, register: Register, to: DataRegister, store: &mut S) -> Bus
         ensures data { stands self.new (S.meaning store.new) ≡ move_to register.number to (stands self.old (S.meaning store.old)) }
         ensures bus { result ≡ move_bus register.number to.address (stands self.old (S.meaning store.old)) }
     {
-        Bus {
-            sent: self.relink(register, to, store),
+        if register.is_zero() {
+            return Bus::quiet();
         }
-    }
-
-    // Gives a register's line the bytes of a tag.
-    fn bring(&mut self, from: Tag, register: Register)
-        requires { is_zero register.number ≡ false }
-        ensures { stands self.new ≡ (λ m. write register.number ((names self.old.bank).bytes from.number) (stands self.old m)) }
-    {
+        let sent = self.leave(register, to.address, store);
         self.bank.sound();
-        let tag = self.tag(register);
-        self.bank.copy_line(from, register);
-        self.marks.insert(tag.number());
+        self.bank.move_to(register, to.address, &Backing { store });
+        let r = usize::from(register.number());
+        self.registers[r] = to;
+        Bus { sent }
     }
 
-    // Copies a register's line onto the line of an address, moves the register there, with a type, and answers
-    // what that did on the bus. (The line is copied once the register is there: its old tag's bytes are still
-    // those that it showed.)
+    // Copies a register's line onto that of an address, moves the register there, with a type, and answers
+    // what that did on the bus. The line that is overwritten is not read.
     pub fn carry<S: Store>(&mut self, register: Register, to: DataRegister, store: &mut S) -> Bus
         ensures data { stands self.new (S.meaning store.new) ≡ carry register.number to (stands self.old (S.meaning store.old)) }
         ensures bus { result ≡ carry_bus register.number to.address (stands self.old (S.meaning store.old)) }
@@ -217,10 +178,14 @@ impl DataRegisters {
         if register.is_zero() {
             return Bus::quiet();
         }
-        let from = self.tag(register);
+        let sent = self.leave(register, to.address, store);
         self.bank.sound();
-        let sent = self.relink(register, to, store);
-        self.bring(from, register);
+        self.bank.carry(register, to.address);
+        self.bank.sound();
+        let r = usize::from(register.number());
+        self.registers[r] = to;
+        let tag = self.bank.tag(register).number();
+        self.marks.insert(tag);
         Bus { sent }
     }
 
@@ -247,10 +212,10 @@ impl DataRegisters {
     }
 }
 
-// The type u8 for each register. (By itself, so that no other goal has a list of 128 types in it.)
-#[tactic(auto, unfolding(crate::specs::Types::all_u8))]
-fn all_u8() -> [ElementType; 128]
-    ensures { result ≡ all_u8 }
+// Every register as it is after boot. (By itself, so that no other goal has a list of 128 registers in it.)
+#[tactic(auto, unfolding(crate::specs::Standing::all_blank))]
+fn all_blank() -> [DataRegister; 128]
+    ensures { result ≡ all_blank }
 {
-    [ElementType::U8; 128]
+    [DataRegister::blank(); 128]
 }

@@ -55,7 +55,7 @@ impl InstructionRegisters {
         ensures { stands self.new ≡ take register.number address (data_side memory.now.registers.now (S.meaning memory.now.store.now)).memory (stands self.old) }
     {
         self.bank.sound();
-        self.bank.go(register, address, memory);
+        self.bank.move_to(register, address, memory);
     }
 }
 

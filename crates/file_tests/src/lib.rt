@@ -1,6 +1,7 @@
 // The file at work: what its calls answer and refuse, what they leave in the store, and what registers
 // show. Every answer here stands as a number that was written by hand. It uses
-// `calls` and `file`, `store` for what the file is handed, and `tags`, `flat`, `word` and `refusal` for what it is told and answers.
+// `calls` and `file`, `store` for what the file is handed, and `tags`, `flat` and `word` for what it is told
+// and answers.
 #![tactic(auto)]
 
 #[cfg(test)]
@@ -11,8 +12,7 @@ mod tests {
     use crate::poke::Poke;
     use calls::File;
     use file::{DataRegisters, InstructionRegisters, Machine};
-    use flat::{Control, DataRegister, Exception, Mode, ShownData, ShownInstruction};
-    use refusal::Refusal;
+    use flat::{Control, DataRegister, Exception, Mode, Refusal, ShownData, ShownInstruction};
     use store::{OpenBus, Ram, Rom, Store};
     use tags::Register;
     use word::ElementType;

@@ -2,8 +2,8 @@
 use Rattle.std.proofs.Common.{◌≡◌, ◌<◌, ℕ, Bool, true, false, if◌then◌else◌, List, Ok, nat_lt, ◌==◌, refl, sym, subst, ap, ◌∙◌, arith}
 use Rattle.std.proofs.lemmas.Bool.{true≢false}
 use Rattle.std.proofs.lemmas.Bool.Decides.{nat_tests}
-use Rattle.refusal.specs.declared.Refusal.{Refusal}
-use Rattle.refusal.specs.declared.Refusal.TheVariants.{NoLines, Cold, Warm, NoRegister, OverLimit}
+use Rattle.flat.specs.declared.refusal.Refusal.{Refusal}
+use Rattle.flat.specs.declared.refusal.Refusal.TheVariants.{NoLines, Cold, Warm, NoRegister, OverLimit}
 use Rattle.store.specs.Meaning.{Meaning}
 use Rattle.flat.specs.Calls.{Flat, Called, Traced as TracedSteps, refused, answered, with_machine, when_warm, within_limit, of_register, most_steps, started, started_data, cold, backing, boot, step_call, run, run_steps, trace, trace_steps, traced, runs_on, traces_on, pin, show_data, show_instruction, show_rest, data_shown, instruction_shown, flush, halt, touched_lines}
 use Rattle.flat.specs.Data.{Data, given, flushed}

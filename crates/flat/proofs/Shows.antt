@@ -1,6 +1,6 @@
 -- Showing changes nothing.
 use Rattle.std.proofs.Common.{◌≡◌, ℕ, Bool, true, false, if◌then◌else◌, nat_lt, refl}
-use Rattle.refusal.specs.declared.Refusal.TheVariants.{NoRegister, Cold}
+use Rattle.flat.specs.declared.refusal.Refusal.TheVariants.{NoRegister, Cold}
 use Rattle.flat.specs.Calls.{Flat, Called, show_data, show_instruction, show_rest, data_shown, instruction_shown, of_register, when_warm, refused, answered}
 use Rattle.flat.specs.Machine.{Machine}
 

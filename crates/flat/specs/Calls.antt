@@ -1,7 +1,7 @@
 -- The calls: what each answers and refuses, and what it leaves.
 use Rattle.std.specs.Prelude.{ℕ, zero, suc, ◌+◌, ◌*◌, Bool, true, false, if◌then◌else◌, not, ◌&&◌, List, [], ◌∷◌, ◌++◌, length, Some, None, Option, Ok, Err, Result, ◌==◌, nat_lt}
-use Rattle.refusal.specs.declared.Refusal.{Refusal}
-use Rattle.refusal.specs.declared.Refusal.TheVariants.{NoLines, Cold, Warm, NoRegister, OverLimit}
+use Rattle.flat.specs.declared.refusal.Refusal.{Refusal}
+use Rattle.flat.specs.declared.refusal.Refusal.TheVariants.{NoLines, Cold, Warm, NoRegister, OverLimit}
 use Rattle.word.specs.Lines.{little_endian}
 use Rattle.marks.specs.Marks.{how_many}
 use Rattle.store.specs.Meaning.{Meaning, most}

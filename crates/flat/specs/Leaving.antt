@@ -1,6 +1,6 @@
 -- The steps of a call, and the lines that their last data register leaves in them.
 use Rattle.std.specs.Prelude.{◌≡◌, ℕ, zero, suc, ◌<◌, Bool, true, false, not, ◌&&◌, List, Ok, Err, Result}
-use Rattle.refusal.specs.declared.Refusal.{Refusal}
+use Rattle.flat.specs.declared.refusal.Refusal.{Refusal}
 use Rattle.store.specs.Meaning.{Meaning}
 use Rattle.flat.specs.Calls.{Flat, backing}
 use Rattle.flat.specs.Data.{addresses}

@@ -4,6 +4,7 @@
 --
 -- In order: every exception with its number (Exceptions); which registers there are and what they name (Registers); the data registers, memory, marks and backing copy, and what writing, moving and flushing do to them (Data); the instruction registers and taking a line (Instructions); the whole machine, and entering an exception (Machine); what an operation reads (Operands), which exception is entered instead of it (Raising), and what it does (Operations); one step (Step); the calls, and a call on another store (Calls). Worked has the machine that carries out one word; the table of worked sums uses it. docs/machine.md has the rules in plain words.
 pub mod Bus
+pub mod Refusals
 pub mod Exceptions
 pub mod Registers
 pub mod Data

@@ -8,10 +8,7 @@ pub enum Call {
     // up to so many steps
     Run(u32),
     // up to so many steps, with so much space at most for records of them and for lines sent back
-    Trace {
-        limit: u32,
-        most: Slots,
-    },
+    Trace { limit: u32, most: Slots },
     // puts the pin up or down
     Pin(bool),
     // shows a data register, an instruction register, or all other fields

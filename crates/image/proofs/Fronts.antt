@@ -1,8 +1,8 @@
 -- The record at the front of some bytes lies within them.
 use Rattle.std.proofs.Common.{◌≡◌, ℕ, ◌+◌, ◌<◌, ◌≤◌, ◌≢◌, List, length, drop, Some, None, Err, Option, arith, length-drop, length-take}
 use Rattle.std.proofs.lemmas.List.{take_rest}
-use Rattle.refusal.specs.declared.Refusal.{Refusal}
-use Rattle.refusal.specs.declared.Refusal.TheVariants.{Cut}
+use Rattle.image.specs.declared.fault.ImageRefusal.{ImageRefusal}
+use Rattle.image.specs.declared.fault.ImageRefusal.TheVariants.{Cut}
 use Rattle.image.specs.declared.fault.Cause.TheVariants.{Form}
 use Rattle.image.specs.Records.{Gives}
 use Rattle.std.proofs.lemmas.Bool.Decides.{nat_tests}
@@ -17,7 +17,7 @@ unfolding front
 ends_within bs e = grind (arith, nat_tests)
 
 -- A record at fault, and bytes behind the end, are the first at fault from there on.
-pub fault_here : (image : List ℕ) (at : ℕ) (o n : Option ℕ) (r : Refusal) → Some at ≡ o → front (drop at image) ≡ bad r → n ≡ None → Gives image o (Some (Err (record { cause = Form r; at = at }))) n
+pub fault_here : (image : List ℕ) (at : ℕ) (o n : Option ℕ) (r : ImageRefusal) → Some at ≡ o → front (drop at image) ≡ bad r → n ≡ None → Gives image o (Some (Err (record { cause = Form r; at = at }))) n
 fault_here image at o n r p f e = rw (← p) (here f, e)
 
 pub fault_behind : (image : List ℕ) (at : ℕ) (o n : Option ℕ) → Some at ≡ o → front (drop at image) ≡ ends → length (drop at image) ≢ 6 → n ≡ None → Gives image o (Some (Err (record { cause = Form Cut; at = at + 6 }))) n

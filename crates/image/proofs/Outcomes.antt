@@ -1,7 +1,7 @@
 -- An image has one outcome in a store: what is said of it by `Loads` is said of one result and one store only.
 use Rattle.std.proofs.Common.{◌≡◌, ℕ, ◌+◌, true, List, ◌∷◌, drop, Ok, Err, Result, sym, refl, ap, ◌∙◌, subst, ⊎_elim}
 use Rattle.std.proofs.lemmas.Bool.{cases_order, both_ways}
-use Rattle.refusal.specs.declared.Refusal.{Refusal}
+use Rattle.image.specs.declared.fault.ImageRefusal.{ImageRefusal}
 use Rattle.store.specs.Meaning.{Meaning}
 use Rattle.store.specs.Rules.{refused}
 use Rattle.image.specs.declared.fault.Cause.{Cause}
@@ -21,7 +21,7 @@ image_one {at} {bs} qs (placed {a = a} {b = b} e w) v =
 
 -- The first record at fault is determined.
 malformed_one :
-    {at : ℕ} {bs : List ℕ} {x y : ℕ} {r s : Refusal} → Malformed at bs x r → Malformed at bs y s → (x ≡ y) × (r ≡ s)
+    {at : ℕ} {bs : List ℕ} {x y : ℕ} {r s : ImageRefusal} → Malformed at bs x r → Malformed at bs y s → (x ≡ y) × (r ≡ s)
 malformed_one {r = r} {s = s} (here e) (here f) = let n : bad r ≡ bad s = sym e ∙ f in (refl, cc)
 malformed_one (here e) (behind f k) = absurd cc
 malformed_one (here e) (later f w) = absurd cc

@@ -6,12 +6,12 @@ use Rattle.image.specs.declared.fault.Cause.TheVariants.{Form, Line}
 use Rattle.image.specs.declared.fault.Fault.{Fault}
 use Rattle.image.specs.declared.place.Place.{Place}
 use Rattle.image.specs.Records.{Gives, IllFormed}
-use Rattle.refusal.specs.declared.Refusal.{Refusal}
+use Rattle.image.specs.declared.fault.ImageRefusal.{ImageRefusal}
 use Rattle.image.specs.Format.{places, ends, front, taken, Placed, Image, Malformed, here, behind, later, ended, placed}
 
 -- What is true of the records from `at` on is true of the whole image.
 pub record Walked (image : List ℕ) (at : ℕ) : Type 0 where
-  pub malformed : (x : ℕ) (r : Refusal) → Malformed at (drop at image) x r → Malformed 0 image x r
+  pub malformed : (x : ℕ) (r : ImageRefusal) → Malformed at (drop at image) x r → Malformed 0 image x r
   pub whole : (ps : List Placed) → Image at (drop at image) ps → (qs : List Placed) × Image 0 image qs
 
 pub walked_more : (image : List ℕ) (at a : ℕ) (b : List ℕ) → front (drop at image) ≡ places a b → Walked image at → Walked image (at + taken b)
@@ -57,7 +57,7 @@ image_at_end at bs _ e (ended f l) = refl
 image_at_end at bs _ e (placed f w) = cc
 
 -- Whole records have none at fault.
-pub image_sound : {at : ℕ} {bs : List ℕ} {ps : List Placed} {x : ℕ} {r : Refusal} → Image at bs ps → Malformed at bs x r → ⊥
+pub image_sound : {at : ℕ} {bs : List ℕ} {ps : List Placed} {x : ℕ} {r : ImageRefusal} → Image at bs ps → Malformed at bs x r → ⊥
 image_sound (ended e l) (here f) = cc
 image_sound (ended e l) (behind f k) = omega arith
 image_sound (ended e l) (later f w) = cc

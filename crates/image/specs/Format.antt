@@ -1,7 +1,7 @@
 -- The format of an image: records, each with a 6-byte header (the body's length in 4 bytes, the kind in 2) and a body. Kind 1 places bytes: a 4-byte address, and then the bytes. Kind 2 ends the image and has no body.
 use Rattle.std.specs.Prelude.{◌≡◌, ℕ, ◌+◌, ◌-◌, ◌*◌, ◌<◌, if◌then◌else◌, ◌||◌, List, [], ◌∷◌, length, take, drop, ◌==◌, nat_lt, slice_index}
-use Rattle.refusal.specs.declared.Refusal.{Refusal}
-use Rattle.refusal.specs.declared.Refusal.TheVariants.{Cut, Kind}
+use Rattle.image.specs.declared.fault.ImageRefusal.{ImageRefusal}
+use Rattle.image.specs.declared.fault.ImageRefusal.TheVariants.{Cut, Kind}
 
 -- The little-endian number in the two, or the four, bytes from place k on.
 abbrev pub two : List ℕ → ℕ → ℕ
@@ -20,7 +20,7 @@ kind bs = two bs 4
 pub data Front : Type 0 where
   places : ℕ → List ℕ → Front
   ends : Front
-  bad : Refusal → Front
+  bad : ImageRefusal → Front
 
 -- A place has at least its address in its body, and its body is not cut.
 abbrev pub front_place : List ℕ → Front
@@ -56,7 +56,7 @@ pub data Image : ℕ → List ℕ → List Placed → Type 0 where
   placed : {at : ℕ} {bs : List ℕ} {a : ℕ} {b : List ℕ} {ps : List Placed} → front bs ≡ places a b → Image (at + taken b) (drop (taken b) bs) ps → Image at bs (record { at = at; address = a; bytes = b } ∷ ps)
 
 -- The first record at fault among them begins at byte place x, and this is the refusal. A missing end and bytes behind the end count as records.
-pub data Malformed : ℕ → List ℕ → ℕ → Refusal → Type 0 where
-  here : {at : ℕ} {bs : List ℕ} {r : Refusal} → front bs ≡ bad r → Malformed at bs at r
+pub data Malformed : ℕ → List ℕ → ℕ → ImageRefusal → Type 0 where
+  here : {at : ℕ} {bs : List ℕ} {r : ImageRefusal} → front bs ≡ bad r → Malformed at bs at r
   behind : {at : ℕ} {bs : List ℕ} → front bs ≡ ends → 6 < length bs → Malformed at bs (at + 6) Cut
-  later : {at : ℕ} {bs : List ℕ} {a : ℕ} {b : List ℕ} {x : ℕ} {r : Refusal} → front bs ≡ places a b → Malformed (at + taken b) (drop (taken b) bs) x r → Malformed at bs x r
+  later : {at : ℕ} {bs : List ℕ} {a : ℕ} {b : List ℕ} {x : ℕ} {r : ImageRefusal} → front bs ≡ places a b → Malformed (at + taken b) (drop (taken b) bs) x r → Malformed at bs x r

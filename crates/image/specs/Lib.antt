@@ -1,3 +1,4 @@
+pub mod Refusals
 pub mod Causes
 pub mod Format
 pub mod Placing

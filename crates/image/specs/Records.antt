@@ -1,6 +1,6 @@
 -- What the functions that read records answer.
 use Rattle.std.specs.Prelude.{◌≡◌, ℕ, suc, ◌+◌, ◌-◌, ◌≤◌, List, length, drop, Some, None, Ok, Err, Option, Result}
-use Rattle.refusal.specs.declared.Refusal.{Refusal}
+use Rattle.image.specs.declared.fault.ImageRefusal.{ImageRefusal}
 use Rattle.image.specs.declared.fault.Cause.{Cause}
 use Rattle.image.specs.declared.fault.Cause.TheVariants.{Form, Line}
 use Rattle.image.specs.declared.fault.Fault.{Fault}
@@ -8,7 +8,7 @@ use Rattle.image.specs.declared.place.Place.{Place}
 use Rattle.image.specs.Format.{Front, places, ends, bad, front, taken, Placed, Image, Malformed}
 
 -- The record that was read is the one that stands there: a place, or the end.
-abbrev pub Shows : Front → Result (Option Place) Refusal → Type 0
+abbrev pub Shows : Front → Result (Option Place) ImageRefusal → Type 0
 Shows f (Ok (Some p)) = f ≡ places p.address p.bytes.now
 Shows f (Ok None) = f ≡ ends
 Shows f (Err r) = f ≡ bad r

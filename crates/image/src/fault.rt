@@ -2,16 +2,35 @@
 ghost use Rattle.std.specs.Prelude.{◌≡◌, Some};
 ghost use Rattle.image.specs.declared.fault.Cause.TheVariants.{Line};
 ghost use Rattle.image.specs.Causes.{refusal_of, line_of_fault, printed};
+ghost use Rattle.image.specs.Refusals.{refusal_number};
 
-use refusal::Refusal;
 use std::error::Error;
 use std::fmt;
 use store::LineFault;
 
 #[derive(Clone, Copy, PartialEq, Eq, Debug)]
+pub enum ImageRefusal {
+    // a record that is cut, missing or past the end, or a place of under 4 bytes
+    Cut = 7,
+    // a record of no known kind, or an end with a body
+    Kind = 8,
+    // a place on a line that is missing or cannot be written
+    Place = 9,
+}
+
+// The number by which documents, programs and people name a refusal.
+impl From<ImageRefusal> for u8 {
+    ghost from_gives = { λ refusal n. n ≡ refusal_number refusal };
+
+    fn from(refusal: ImageRefusal) -> u8 {
+        refusal as u8
+    }
+}
+
+#[derive(Clone, Copy, PartialEq, Eq, Debug)]
 pub enum Cause {
     // the record's header, kind or body
-    Form(Refusal),
+    Form(ImageRefusal),
     // the store will not take a line of the place
     Line(LineFault),
 }
@@ -41,12 +60,12 @@ impl From<LineFault> for Cause {
 }
 
 impl Fault {
-    pub fn refusal(&self) -> Refusal
+    pub fn refusal(&self) -> ImageRefusal
         ensures { result ≡ refusal_of self.now.cause }
     {
         match self.cause {
             Cause::Form(refusal) => refusal,
-            Cause::Line(_) => Refusal::Place,
+            Cause::Line(_) => ImageRefusal::Place,
         }
     }
 

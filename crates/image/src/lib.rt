@@ -1,5 +1,5 @@
 // The image loader: reads an image of records and writes its places into any store, or says which
-// record is at fault and why and leaves the store as it was. It uses the refusals and the stores.
+// record is at fault and why and leaves the store as it was. It uses the stores.
 #![tactic(auto)]
 
 mod fault;
@@ -11,6 +11,6 @@ mod putting;
 mod record;
 mod records;
 
-pub use fault::{Cause, Fault};
+pub use fault::{Cause, Fault, ImageRefusal};
 pub use lent::load_bytes;
 pub use loading::load;

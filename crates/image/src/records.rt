@@ -4,10 +4,9 @@ ghost use Rattle.std.specs.Option.{ForSome};
 ghost use Rattle.std.specs.Iterator.{at_most};
 ghost use Rattle.image.specs.Records.{Checks, Gives, left};
 
-use crate::fault::{Cause, Fault};
+use crate::fault::{Cause, Fault, ImageRefusal};
 use crate::place::{HEADER, Place};
 use crate::record::first_record;
-use refusal::Refusal;
 
 // The places of an image, each with the byte place of its record. A record at fault is the last.
 #[derive(Drop)]
@@ -47,7 +46,7 @@ impl<'a> Iterator for Places<'a> {
                     return None;
                 }
                 // what stands behind the end
-                Some(Err(Cause::Form(Refusal::Cut).at(at + HEADER)))
+                Some(Err(Cause::Form(ImageRefusal::Cut).at(at + HEADER)))
             }
             Err(refusal) => Some(Err(Cause::Form(refusal).at(at))),
         }

@@ -26,6 +26,6 @@ filled t z = line_of t (λ k. z)
 abbrev pub vector : Arith → ElementType → List ℕ → List ℕ → List ℕ
 vector op t x y = line_of t (λ k. computed op t (element t x k) (element t y k))
 
--- Addr is add with one address in the place of x: it adds it to every element.
+-- Address add is add with one address in the place of x: it adds it to every element.
 abbrev pub vector_addr : ElementType → ℕ → List ℕ → List ℕ
 vector_addr t address y = line_of t (λ k. computed Add t (pos address) (element t y k))

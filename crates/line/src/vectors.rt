@@ -85,7 +85,7 @@ fn add_address_as(kind: ElementType, address: u32, y: &[u8; 128], out: &mut [u8;
     *out = made;
 }
 
-// The vector form of addr: the address, cast, added to every element.
+// The vector form of address add: the address, cast, added to every element.
 pub fn vector_addr(kind: ElementType, address: u32, y: &[u8; 128], out: &mut [u8; 128])
     ensures { out.new ≡ vector_addr kind address y.now }
 {

@@ -1,6 +1,6 @@
 -- What reading and writing a line answer, and what store and record hold then.
 use Rattle.std.specs.Prelude.{◌≡◌, ℕ, ◌<◌, ◌≤◌, true, false, if◌then◌else◌, List, Ok, Err, Result, nat_lt}
-use Rattle.refusal.specs.declared.Refusal.TheVariants.{MissingLine, FixedLine}
+use Rattle.store.specs.declared.fault.LineRefusal.TheVariants.{MissingLine, FixedLine}
 use Rattle.store.specs.declared.fault.LineFault.{LineFault}
 use Rattle.store.specs.Meaning.{Meaning, with_line}
 

@@ -1,6 +1,6 @@
 // Stores: where the lines lie. One trait says what a store means (its size, the bytes of each line,
 // which lines can be written), what its questions answer, and what holds of every store; RAM, ROM,
-// open bus and the layers fuse and split are stores. It uses the refusals and nothing else.
+// open bus and the layers fuse and split are stores. It uses no other crate.
 #![tactic(auto)]
 
 mod fault;
@@ -11,7 +11,7 @@ mod rom;
 mod split;
 mod store;
 
-pub use fault::LineFault;
+pub use fault::{LineFault, LineRefusal};
 pub use fuse::Fuse;
 pub use open_bus::OpenBus;
 pub use ram::Ram;

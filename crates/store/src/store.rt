@@ -3,8 +3,7 @@ ghost use Rattle.std.specs.Prelude.{◌≡◌};
 ghost use Rattle.store.specs.Meaning.{Meaning, Sound};
 ghost use Rattle.store.specs.Rules.{Admits, Finds, Reads, Writes, refused};
 
-use crate::fault::LineFault;
-use refusal::Refusal;
+use crate::fault::{LineFault, LineRefusal};
 
 // No store has more lines.
 pub const MOST_LINES: u32 = 33_554_432;
@@ -32,9 +31,9 @@ pub trait Store {
         ensures { result ≡ refused (meaning self.now) line }
     {
         let cause = if line < self.size() {
-            Refusal::FixedLine
+            LineRefusal::FixedLine
         } else {
-            Refusal::MissingLine
+            LineRefusal::MissingLine
         };
         LineFault { cause, line }
     }

@@ -5,6 +5,7 @@ pub mod All
 pub mod Steps
 pub mod Starting
 pub mod Moves
+pub mod Carries
 pub mod Tests
 pub mod Showing
 pub mod Banks

@@ -64,6 +64,11 @@ abbrev pub Goes : ℕ → ℕ → List ℕ → Names → Names → Type 0
 Goes r a b before after =
     (u : ℕ) × (is_zero r ≡ false → before.tag (a / 128) ≡ None → Unused before u) × (after ≡ gone r a u b before)
 
+-- Register r goes to address a and takes along the bytes of its line, which the line there has then, whatever it had. The tag is as free to choose.
+abbrev pub Carries : ℕ → ℕ → Names → Names → Type 0
+Carries r a before after =
+    (u : ℕ) × (is_zero r ≡ false → before.tag (a / 128) ≡ None → Unused before u) × (after ≡ written r (before.bytes (tag_of before r)) (gone r a u no_bytes before))
+
 -- What holds of every bank.
 pub record Sound (s : Names) : Type 0 where
   -- the line of a register has a tag, zero registers aside

@@ -1,7 +1,7 @@
 -- Which numbers name registers.
 use Rattle.std.specs.Prelude.{◌≡◌, ℕ, ◌<◌, ◌≤◌, Ok, Err, Result}
-use Rattle.refusal.specs.declared.Refusal.{Refusal}
-use Rattle.refusal.specs.declared.Refusal.TheVariants.{NoRegister}
+use Rattle.flat.specs.declared.refusal.Refusal.{Refusal}
+use Rattle.flat.specs.declared.refusal.Refusal.TheVariants.{NoRegister}
 use Rattle.tags.specs.declared.register.Register.{Register}
 
 -- A number below 128 is a register's, and any other is refused.

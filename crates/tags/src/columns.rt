@@ -6,6 +6,7 @@ use crate::change::Change;
 use crate::index::Index;
 use crate::lines::Lines;
 use crate::tag::Tag;
+use flat::line_of;
 
 #[derive(Drop)]
 pub(crate) struct Columns {
@@ -122,7 +123,7 @@ impl Columns {
     }
 
     // Register r lays down its tag, which is free when no other carries it.
-    pub(crate) fn lay_down(&mut self, r: usize)
+    fn lay_down(&mut self, r: usize)
         requires register { r < 128 }
         requires real { is_zero r ≡ false }
         requires tag { slice_index self.old.carried r ≢ 0 }
@@ -143,7 +144,7 @@ impl Columns {
 
     // Register r, which carries no tag, goes to an address and takes the tag of its line: the one that
     // holds the line, or a free one where none does.
-    pub(crate) fn take_up(&mut self, r: usize, tag: usize, address: u32)
+    fn take_up(&mut self, r: usize, tag: usize, address: u32)
         requires register { r < 128 }
         requires real { is_zero r ≡ false }
         requires bare { slice_index self.old.carried r ≡ 0 }
@@ -159,7 +160,7 @@ impl Columns {
         self.addresses[r] = address;
         self.carried[r] = tag as u8;
         self.counts[tag] += 1;
-        let line = address / 128;
+        let line = line_of(address);
         self.index.take(tag as u8, line, self.lines[tag] == FREE);
         self.lines[tag] = line;
     }
@@ -177,31 +178,41 @@ impl Columns {
         self.addresses[r] = address;
     }
 
-    // The tag for a line: the one that holds it, or where none does a free one, which gets its bytes.
-    pub(crate) fn tag_for<L: Lines>(&mut self, line: u32, lines: &L) -> usize
+    // The tag for a line: the one that holds it, or a free one where none does.
+    pub(crate) fn tag_for(&self, line: u32) -> usize
         requires { line < 2 ^ 25 }
         ensures some { 0 < result }
         ensures tags { result < 128 }
-        ensures only { (u : ℕ) → u < 128 → slice_index self.old.lines u ≡ line → u ≡ result }
-        ensures ready { slice_index self.old.lines result ≢ free → slice_index self.old.lines result ≡ line }
-        ensures addresses { self.new.addresses ≡ self.old.addresses }
-        ensures carried { self.new.carried ≡ self.old.carried }
-        ensures lines { self.new.lines ≡ self.old.lines }
-        ensures counts { self.new.counts ≡ self.old.counts }
-        ensures bytes { self.new.bytes ≡ filled_for line (L.given lines.now line) result self.old.lines self.old.bytes }
+        ensures only { (u : ℕ) → u < 128 → slice_index self.now.lines u ≡ line → u ≡ result }
+        ensures ready { slice_index self.now.lines result ≢ free → slice_index self.now.lines result ≡ line }
     {
         match self.holder(line) {
             Some(tag) => usize::from(tag.number()),
-            None => {
-                let tag = self.first_free();
-                self.fill(tag, lines, line);
-                tag
-            }
+            None => self.first_free(),
         }
     }
 
+    // Register r lays down its tag, goes to an address and takes up the tag of its line: the one that holds
+    // the line, or a free one where none does.
+    pub(crate) fn exchange(&mut self, r: usize, tag: usize, address: u32)
+        requires register { r < 128 }
+        requires real { is_zero r ≡ false }
+        requires carried { slice_index self.old.carried r ≢ 0 }
+        requires some { 0 < tag }
+        requires tags { tag < 128 }
+        requires only { (u : ℕ) → u < 128 → slice_index self.old.lines u ≡ address / 128 → u ≡ tag }
+        requires ready { slice_index self.old.lines tag ≢ free → slice_index self.old.lines tag ≡ address / 128 }
+        ensures addresses { self.new.addresses ≡ slice_set self.old.addresses r address }
+        ensures carried { self.new.carried ≡ slice_set (slice_set self.old.carried r 0) r tag }
+        ensures lines { self.new.lines ≡ slice_set (laid_down self.old.lines self.old.counts (slice_index self.old.carried r)) tag (address / 128) }
+        ensures bytes { self.new.bytes ≡ self.old.bytes }
+    {
+        self.lay_down(r);
+        self.take_up(r, tag, address);
+    }
+
     // Changes a tag's bytes.
-    pub(crate) fn change<C: Change>(&mut self, tag: usize, change: &C)
+    pub(crate) fn write<C: Change>(&mut self, tag: usize, change: &C)
         requires some { 0 < tag }
         requires tags { tag < 128 }
         ensures addresses { self.new.addresses ≡ self.old.addresses }
@@ -212,17 +223,19 @@ impl Columns {
         change.change(&mut self.bytes[tag]);
     }
 
-    // Gives a tag the bytes of a line.
-    pub(crate) fn fill<L: Lines>(&mut self, tag: usize, lines: &L, line: u32)
+    // Gives a tag the bytes of a line, unless it holds the line already.
+    pub(crate) fn fill<L: Lines>(&mut self, tag: usize, line: u32, lines: &L)
         requires some { 0 < tag }
         requires tags { tag < 128 }
         ensures addresses { self.new.addresses ≡ self.old.addresses }
         ensures carried { self.new.carried ≡ self.old.carried }
         ensures lines { self.new.lines ≡ self.old.lines }
         ensures counts { self.new.counts ≡ self.old.counts }
-        ensures bytes { self.new.bytes ≡ set self.old.bytes tag (L.given lines.now line) }
+        ensures bytes { self.new.bytes ≡ filled_for line (L.given lines.now line) tag self.old.lines self.old.bytes }
     {
-        lines.give(line, &mut self.bytes[tag]);
+        if self.lines[tag] != line {
+            lines.give(line, &mut self.bytes[tag]);
+        }
     }
 
     // Copies a tag's bytes onto another's.
@@ -233,13 +246,14 @@ impl Columns {
         ensures addresses { self.new.addresses ≡ self.old.addresses }
         ensures carried { self.new.carried ≡ self.old.carried }
         ensures lines { self.new.lines ≡ self.old.lines }
+        ensures counts { self.new.counts ≡ self.old.counts }
         ensures bytes { self.new.bytes ≡ set self.old.bytes to (get_or self.old.bytes from no_bytes) }
     {
         self.bytes.copy_within(from..from + 1, to);
     }
 
     // A free tag: there are more tags than registers that carry one.
-    pub(crate) fn first_free(&self) -> usize
+    fn first_free(&self) -> usize
         ensures some { 0 < result }
         ensures tags { result < 128 }
         ensures free { slice_index self.now.lines result ≡ free }

@@ -2,20 +2,17 @@
 // one tag, which holds the line's number, its 128 bytes and how many registers carry it. Registers 0
 // and 64 are zero registers: they name no line, carry tag 0, show zeros and never change. One text
 // serves data and instruction registers. Who gives the bytes of a line, and what a write makes of them,
-// are traits, so that neither a store nor an operation is known here. It uses the refusals,
-// of the flat machine which registers there are and what they name, and how marks are counted.
+// are traits, so that neither a store nor an operation is known here. It uses, of
+// the flat machine, which registers there are and what they name, and how marks are counted.
 #![tactic(auto)]
 
-mod asking;
 mod bank;
 mod change;
 mod columns;
-mod going;
 mod index;
 mod lines;
 mod register;
 mod tag;
-mod writing;
 
 pub use bank::Bank;
 pub use change::Change;

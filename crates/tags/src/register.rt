@@ -1,8 +1,7 @@
 // Numbers of registers.
 ghost use Rattle.std.specs.Prelude.{◌<◌};
 
-use flat::Mode;
-use refusal::Refusal;
+use flat::{Mode, Refusal};
 
 #[derive(Clone, Copy, PartialEq, Eq, Debug)]
 pub struct Register {

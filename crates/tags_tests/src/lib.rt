@@ -69,18 +69,18 @@ mod tests {
     fn registers_on_one_line_share_a_tag(rt: HostRuntime) {
         let mut bank = Bank::new(&[9; 128]);
         let lines = Same::new([7; 128]);
-        bank.go(user(5), 130, &lines);
-        bank.go(user(6), 200, &lines);
+        bank.move_to(user(5), 130, &lines);
+        bank.move_to(user(6), 200, &lines);
         assert_eq!(rt; tag(&bank, user(5)), (2, 2));
         assert_eq!(rt; tag(&bank, user(6)), (2, 2));
         assert_eq!(rt; tag(&bank, user(7)), (1, 124));
         assert_eq!(rt; bank.address(user(5)), 130);
         assert_eq!(rt; ends(&bank, user(6)), (7, 7));
-        bank.go(user(5), 256, &lines);
+        bank.move_to(user(5), 256, &lines);
         assert_eq!(rt; tag(&bank, user(6)), (2, 1));
         assert_eq!(rt; tag(&bank, user(5)), (3, 1));
         assert_eq!(rt; bank.is_last(user(6)), true);
-        bank.go(user(6), 0, &lines);
+        bank.move_to(user(6), 0, &lines);
         assert_eq!(rt; tag(&bank, user(6)), (1, 125));
         assert_eq!(rt; search(&bank, 1), None);
         assert_eq!(rt; search(&bank, 2), Some(3));
@@ -90,9 +90,9 @@ mod tests {
     fn zero_registers_stay(rt: HostRuntime) {
         let mut bank = Bank::new(&[9; 128]);
         let lines = Same::new([7; 128]);
-        bank.go(user(0), 256, &lines);
-        bank.change(user(0), &Poke::new(0, 5));
-        bank.copy_line(bank.tag(user(1)), user(0));
+        bank.move_to(user(0), 256, &lines);
+        bank.write(user(0), &Poke::new(0, 5));
+        bank.carry(user(0), 256);
         assert_eq!(rt; tag(&bank, user(0)), (0, 0));
         assert_eq!(rt; bank.address(user(0)), 0);
         assert_eq!(rt; search(&bank, 2), None);
@@ -103,15 +103,32 @@ mod tests {
     fn writes_are_seen_by_every_register_on_the_line(rt: HostRuntime) {
         let mut bank = Bank::new(&[9; 128]);
         let lines = Same::new([7; 128]);
-        bank.go(user(5), 128, &lines);
-        bank.change(user(1), &Poke::new(127, 3));
+        bank.move_to(user(5), 128, &lines);
+        bank.write(user(1), &Poke::new(127, 3));
         assert_eq!(rt; ends(&bank, user(2)), (9, 3));
         assert_eq!(rt; ends(&bank, user(5)), (7, 7));
-        bank.copy_line(bank.tag(user(1)), user(5));
+    }
+
+    #[test]
+    fn a_carried_line_covers_what_lies_there(rt: HostRuntime) {
+        let mut bank = Bank::new(&[9; 128]);
+        let lines = Same::new([7; 128]);
+        bank.move_to(user(5), 128, &lines);
+        bank.carry(user(1), 132);
+        assert_eq!(rt; tag(&bank, user(1)), (2, 2));
+        assert_eq!(rt; bank.address(user(1)), 132);
+        assert_eq!(rt; ends(&bank, user(5)), (9, 9));
+        bank.write(user(5), &Poke::new(127, 3));
+        bank.carry(user(5), 256);
+        assert_eq!(rt; tag(&bank, user(5)), (3, 1));
+        assert_eq!(rt; search(&bank, 2), Some(3));
         assert_eq!(rt; ends(&bank, user(5)), (9, 3));
-        bank.copy_line(bank.tag(user(0)), user(5));
-        assert_eq!(rt; ends(&bank, user(5)), (0, 0));
         assert_eq!(rt; ends(&bank, user(1)), (9, 3));
+        assert_eq!(rt; ends(&bank, user(2)), (9, 9));
+        bank.carry(user(5), 260);
+        assert_eq!(rt; tag(&bank, user(5)), (3, 1));
+        assert_eq!(rt; bank.address(user(5)), 260);
+        assert_eq!(rt; ends(&bank, user(5)), (9, 3));
     }
 
     #[test]
@@ -119,8 +136,8 @@ mod tests {
         let mut bank = Bank::new(&[9; 128]);
         let lines = Same::new([7; 128]);
         for field in 1..64u8 {
-            bank.go(user(field), 128 * u32::from(field), &lines);
-            bank.go(
+            bank.move_to(user(field), 128 * u32::from(field), &lines);
+            bank.move_to(
                 Register::of(Mode::Supervisor, field),
                 128 * u32::from(field) + 8192,
                 &lines,
@@ -130,7 +147,7 @@ mod tests {
             assert_eq!(rt; bank.count(bank.tag(user(field))), 1);
             assert_eq!(rt; bank.line(bank.tag(user(field))), Some(u32::from(field)));
         }
-        bank.go(user(1), u32::MAX, &lines);
+        bank.move_to(user(1), u32::MAX, &lines);
         assert_eq!(rt; bank.is_last(user(1)), true);
         assert_eq!(rt; bank.line(bank.tag(user(1))), Some(33_554_431));
     }

@@ -1,7 +1,6 @@
 -- What a trail holds, and what adding to it does.
 use Rattle.std.specs.Prelude.{◌≡◌, ℕ, ◌+◌, ◌-◌, ◌<◌, List, [], ◌∷◌, ◌++◌, length, take, drop, Ok, Err, Result}
-use Rattle.refusal.specs.declared.Refusal.{Refusal}
-use Rattle.refusal.specs.declared.Refusal.TheVariants.{FullTrail}
+use Rattle.trail.specs.declared.FullTrail.{FullTrail}
 use Rattle.trail.specs.declared.Trail.{Trail}
 
 -- The records held: what stands in the used slots, in their order.
@@ -22,9 +21,9 @@ pub record Added {X : Type 0} (before after : Trail X) (more : List X) : Type 0 
   pub loan : after.slots.ghost_name ≡ before.slots.ghost_name
 
 -- Adding one record: with space left it is added; a full trail refuses it, and nothing changes.
-abbrev pub Adds : {X Y : Type 0} → Trail X → X → Result Y Refusal → Trail X → Type 0
+abbrev pub Adds : {X Y : Type 0} → Trail X → X → Result Y FullTrail → Trail X → Type 0
 Adds before x (Ok y) after = (0 < space before) × Added before after (x ∷ [])
-Adds before x (Err why) after = (space before ≡ 0) × (why ≡ FullTrail) × (after ≡ before)
+Adds before x (Err _) after = (space before ≡ 0) × (after ≡ before)
 
 -- The caller's slots when a trail that was made over them ends with the records `more`: these in
 -- front, and every other slot as it was.

@@ -1,11 +1,23 @@
 // Trails: records of one kind, kept in order in a slice that the caller lends. When the trail ends
 // the caller has its slots again, the records in front and every other slot as it was: each contract
-// keeps the name of the loan, which is how a caller knows its own slots. It uses `refusal` only.
+// keeps the name of the loan, which is how a caller knows its own slots. It uses no other crate.
 #![tactic(auto)]
 
 ghost use Rattle.std.specs.Prelude.{◌≡◌, ◌≤◌, min, [], ◌∷◌, length, take};
+ghost use Rattle.trail.specs.Refusals.{refusal_number};
 
-use refusal::Refusal;
+// A trail refuses only a record that has no space: it is full.
+#[derive(Clone, Copy, PartialEq, Eq, Debug)]
+pub struct FullTrail;
+
+// The number by which documents, programs and people name the refusal.
+impl From<FullTrail> for u8 {
+    ghost from_gives = { λ refusal n. n ≡ refusal_number refusal };
+
+    fn from(_refusal: FullTrail) -> u8 {
+        12
+    }
+}
 
 // The records held stand in the first `used` slots; the other slots are space.
 #[derive(Drop)]
@@ -35,11 +47,11 @@ impl<'a, T: Drop> Trail<'a, T> {
     }
 
     // Puts the record behind those held; a full trail refuses it and lets it go.
-    pub fn add(&mut self, record: T) -> Result<(), Refusal>
+    pub fn add(&mut self, record: T) -> Result<(), FullTrail>
         ensures { Adds self.old «record» result self.new }
     {
         if self.space() == 0 {
-            return Err(Refusal::FullTrail);
+            return Err(FullTrail);
         }
         self.slots[self.used] = record;
         self.used += 1;

@@ -10,7 +10,7 @@ use Rattle.word.specs.declared.operations.Operation.TheVariants.{Arith, AddAddre
 -- and a word that holds none is undefined.
 abbrev pub Codes : Operation → ℕ → Type 0
 Codes (Arith op form a b c) word = Made (plain 0 4 ∷ plain a 6 ∷ plain b 6 ∷ plain c 6 ∷ plain 0 5 ∷ plain (form_number form) 1 ∷ plain (arith_number op) 4 ∷ []) word
--- addr is opcode 11
+-- address add is opcode 11
 Codes (AddAddress form a b c) word = Made (plain 0 4 ∷ plain a 6 ∷ plain b 6 ∷ plain c 6 ∷ plain 0 5 ∷ plain (form_number form) 1 ∷ plain 11 4 ∷ []) word
 -- div.s is opcode 14 and has v = 0, div.v is opcode 15 and has v = 1
 Codes (Div form a b c d) word = Made (plain 0 4 ∷ plain a 6 ∷ plain b 6 ∷ plain c 6 ∷ plain d 5 ∷ plain (form_number form) 1 ∷ plain (14 + form_number form) 4 ∷ []) word

@@ -1,9 +1,8 @@
 -- What reading and writing a word answer.
 use Rattle.std.specs.Prelude.{◌≡◌, ℕ, ◌*◌, ◌^◌, List, Some, None, Ok, Err, Option, Result}
-use Rattle.refusal.specs.declared.Refusal.{Refusal}
-use Rattle.refusal.specs.declared.Refusal.TheVariants.{NoWord}
 use Rattle.word.specs.Codes.{Codes}
 use Rattle.word.specs.Fields.{Field, Fits, bits_of, AllFit, Made}
+use Rattle.word.specs.declared.no_word.NoWord.{NoWord}
 use Rattle.word.specs.declared.operations.Operation.{Operation}
 
 -- The word w is defined: it holds some operation.
@@ -25,28 +24,28 @@ pub record Decodes (w : ℕ) (r : Option Operation) : Type 0 where
   pub found : Found w r
   pub held : (op : Operation) → Codes op w → r ≡ Some op
 
--- A word that is written holds the operation; a refusal is NoWord, and then no word holds it.
-abbrev pub Put : Operation → Result ℕ Refusal → Type 0
+-- A word that is written holds the operation; of one that is refused no word does.
+abbrev pub Put : Operation → Result ℕ NoWord → Type 0
 Put op (Ok w) = Codes op w
-Put op (Err e) = (e ≡ NoWord) × (Held op → ⊥)
+Put op (Err _) = Held op → ⊥
 
 -- Writing an operation answers Ok w exactly when the word w holds it, for every word, and is
 -- refused as NoWord exactly when no word holds it.
-pub record Coded (op : Operation) (r : Result ℕ Refusal) : Type 0 where
+pub record Coded (op : Operation) (r : Result ℕ NoWord) : Type 0 where
   pub put : Put op r
   pub held : (w : ℕ) → Codes op w → r ≡ Ok w
 
 -- Writing a field at a place answers its bits from bit `at` up, and is refused as NoWord where it does
 -- not fit.
-abbrev pub Placed : Field → ℕ → Result ℕ Refusal → Type 0
+abbrev pub Placed : Field → ℕ → Result ℕ NoWord → Type 0
 Placed f at (Ok n) = Fits f × (n ≡ bits_of f * 2 ^ at)
-Placed f at (Err e) = (e ≡ NoWord) × (Fits f → ⊥)
+Placed f at (Err _) = Fits f → ⊥
 
 -- Writing a list of fields answers the word that is made of them, and is refused as NoWord where
 -- one of them does not fit.
-abbrev pub Written : List Field → Result ℕ Refusal → Type 0
+abbrev pub Written : List Field → Result ℕ NoWord → Type 0
 Written fs (Ok w) = Made fs w
-Written fs (Err e) = (e ≡ NoWord) × (AllFit fs → ⊥)
+Written fs (Err _) = AllFit fs → ⊥
 
 -- Reading a word and writing what was found gives the word again exactly when it is defined, and
 -- None when it is not.

@@ -1,4 +1,5 @@
 pub mod Numbers
+pub mod Refusals
 pub mod Types
 pub mod Fields
 pub mod Codes

@@ -62,7 +62,7 @@ module _ (w : ℕ) where
   abbrev pub i : ℤ
   i = from_twos 2048 z
 
-  -- Group 0, a6 b6 c6 d5 v1 o4: div has the opcode 14 + v, and arithmetic has no d.
+  -- Group 0, a6 b6 c6 d5 v1 o4: div has the opcode 14 + v, and address add the opcode 11. Only div has a d.
   abbrev pub arithmetic : Option Operation
   arithmetic =
       let d = extract w 5 5 in

@@ -4,8 +4,8 @@ ghost use Rattle.std.specs.Prelude.{◌≡◌, ◌+◌, ◌-◌, ◌*◌, ◌^�
 ghost use Rattle.word.specs.Decodes.{Placed};
 ghost use Rattle.word.specs.Fields.{plain, signed, Fits, bits_of, extract};
 
+use crate::no_word::NoWord;
 use crate::numbers::UnknownNumber;
-use refusal::Refusal;
 
 // The groups, as numbers: an enum of them would only add a second match.
 pub(crate) const ARITHMETIC: u8 = 0;
@@ -138,26 +138,26 @@ impl Field {
     }
 
     // A number's bits in a word, refused where it does not fit the field.
-    pub(crate) fn write(self, number: u8) -> Result<u32, Refusal>
+    pub(crate) fn write(self, number: u8) -> Result<u32, NoWord>
         ensures { Placed (plain number self.bits) self.at result }
     {
         let number = u32::from(number);
         if number < 1 << self.bits {
             Ok(self.place(number))
         } else {
-            Err(Refusal::NoWord)
+            Err(NoWord)
         }
     }
 
     // A signed number's bits in a word, refused where it does not fit the field.
-    pub(crate) fn write_signed(self, number: i16) -> Result<u32, Refusal>
+    pub(crate) fn write_signed(self, number: i16) -> Result<u32, NoWord>
         ensures { Placed (signed number self.bits) self.at result }
     {
         let half = self.half();
         match number {
             0.. if number < half => Ok(self.place(number as u32)),
             ..0 if -half <= number => Ok(self.place((number + 2 * half) as u32)),
-            _ => Err(Refusal::NoWord),
+            _ => Err(NoWord),
         }
     }
 

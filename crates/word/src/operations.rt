@@ -13,7 +13,7 @@ pub enum Operation {
         b: u8,
         c: u8,
     },
-    // add with dB's address in the place of its element
+    // add with dB's address as the first operand
     AddAddress {
         form: Form,
         a: u8,

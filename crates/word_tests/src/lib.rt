@@ -65,12 +65,20 @@ mod tests {
             (0b0000_000001_000010_000011_00000_0_1000, Arith::Shr),
             (0b0000_000001_000010_000011_00000_0_1001, Arith::Rol),
             (0b0000_000001_000010_000011_00000_0_1010, Arith::Ror),
-            (0b0000_000001_000010_000011_00000_0_1011, Arith::Addr),
         ] {
             let (a, b, c) = (1, 2, 3);
             for (form, v) in [(Form::Scalar, 0), (Form::Vector, 0b1_0000)] {
                 check_holds(&rt, word | v, Operation::Arith { op, form, a, b, c });
             }
+        }
+    }
+
+    // The vector form is the scalar form with a 1 in v, as in arithmetic.
+    #[test]
+    fn address_add(rt: HostRuntime) {
+        let (word, a, b, c) = (0b0000_000001_000010_000011_00000_0_1011, 1, 2, 3);
+        for (form, v) in [(Form::Scalar, 0), (Form::Vector, 0b1_0000)] {
+            check_holds(&rt, word | v, Operation::AddAddress { form, a, b, c });
         }
     }
 

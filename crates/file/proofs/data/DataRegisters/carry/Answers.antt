@@ -1,13 +1,12 @@
-use Rattle.std.proofs.Common.{ℕ, List, ◌∙◌, ap, sym, get_or}
-use Rattle.word.specs.declared.element.ElementType.TheVariants.{U8}
-use Rattle.flat.specs.Data.{Data, move_to, write}
+use Rattle.std.proofs.Common.{◌<◌, ◌∙◌, ℕ, ap, length, sym, subst}
+use Rattle.std.proofs.lemmas.List.{length-set}
+use Rattle.flat.specs.Data.{copied, move_to}
 use Rattle.marks.specs.Marks.{marked}
-use Rattle.store.specs.Meaning.{Meaning}
 use Rattle.tags.specs.Meaning.{names}
-use Rattle.file.specs.Data.{stands}
-use Rattle.file.proofs.Carrying.{carried, carried_zero}
-use Rattle.file.proofs.Sending.{as_bus, sends_zero}
-use Rattle.file.proofs.Writing.{shows}
+use Rattle.file.specs.Data.{sends, stands}
+use Rattle.file.proofs.Carrying.{carried_zero, carry_placed, carry_quiet, carry_stands}
+use Rattle.file.proofs.Leaving.{clean, same}
+use Rattle.file.proofs.Sending.{as_bus, blank_set, sends_zero}
 use Rattle.file.proofs.data.DataRegisters.carry.Goals as goal
 
 pub returns-then-is_zero-clause-data : goal.returns-then-is_zero-clause-data
@@ -17,17 +16,38 @@ pub returns-then-is_zero-clause-bus : goal.returns-then-is_zero-clause-bus
 returns-then-is_zero-clause-bus g c = c.quiet.ensures ∙ as_bus _ _ (sends_zero _ _ _ (sym c.if-is_zero.ensures))
 
 pub returns-clause-bus : goal.returns-clause-bus
-returns-clause-bus g c = as_bus _ _ c.relink-sent.ensures.sent
+returns-clause-bus g c = as_bus _ _ c.leave-sent.ensures.sent
 
 pub returns-clause-data : goal.returns-clause-data
 unfolding stands
 returns-clause-data g c =
-    let d = c.args.self.now in
-    let r = c.args.register.number in
+    let l = c.leave-sent.ensures in
+    let old = c.args.self.now in
+    let new = c.leave-sent.new.self in
     let m = g.S.Store.meaning c.args.store.now in
-    let after = g.S.Store.meaning c.relink-sent.new.store in
-    let l = c.relink-sent.ensures in
-    ap (λ (f : Meaning → Data). f after) c.bring.ensures
-    ∙ (ap (write r _) l.data
-    ∙ (ap (λ (b : List ℕ). write r b (move_to r c.args.to (stands d m))) (ap (names c.relink-sent.new.self.bank).bytes c.tag-from.ensures ∙ (l.bytes ∙ shows (names d.bank) (λ (q : ℕ). get_or d.kinds q U8) (marked d.marks) m r c.args.register.inside c.sound.ensures))
-    ∙ sym (carried (stands d m) r c.args.to (sym c.if-is_zero.ensures))))
+    let q = same old new m l.bank l.registers in
+    let r = c.args.register.number in
+    let a = c.args.to.address in
+    let long : r < length new.registers = subst (λ (n : ℕ). r < n) (sym new.sized) c.args.register.inside in
+    carry_stands (names new.bank) (names c.carry.new.self) new.registers (marked old.marks) (marked new.marks) (marked c.insert.new.self) m (g.S.Store.meaning c.leave-sent.new.store) r c.args.to c.args.register.inside (sym c.if-is_zero.ensures) c.sound.ensures new.placed c.from-r.result (c.from-r.ensures ∙ c.number.ensures) long c.carry.ensures c.sound-2.ensures c.number-tag.result (c.number-tag.ensures ∙ c.tag.ensures.tag) new.quiet (clean old new m r a l.bank l.registers l.clean) c.insert.ensures (l.data ∙ ap (sends r a) q)
+    ∙ ap (λ d. move_to r c.args.to (copied r a d)) (sym q)
+
+pub invariant_of-self : goal.invariant_of-self
+unfolding stands
+invariant_of-self g c =
+    let l = c.leave-sent.ensures in
+    let old = c.args.self.now in
+    let new = c.leave-sent.new.self in
+    let m = g.S.Store.meaning c.args.store.now in
+    let store = g.S.Store.meaning c.leave-sent.new.store in
+    let r = c.args.register.number in
+    let real = sym c.if-is_zero.ensures in
+    let at = c.from-r.ensures ∙ c.number.ensures in
+    let tag = c.number-tag.ensures ∙ c.tag.ensures.tag in
+    let long : r < length new.registers = subst (λ (n : ℕ). r < n) (sym new.sized) c.args.register.inside in
+    record {
+      quiet = carry_quiet (names new.bank) (names c.carry.new.self) new.registers (marked old.marks) (marked new.marks) (marked c.insert.new.self) m store r c.args.to c.args.register.inside real c.sound.ensures new.placed c.from-r.result at long c.carry.ensures c.sound-2.ensures c.number-tag.result tag new.quiet (clean old new m r c.args.to.address l.bank l.registers l.clean) c.insert.ensures;
+      sized = length-set _ _ _ ∙ new.sized;
+      placed = carry_placed (names new.bank) (names c.carry.new.self) new.registers (marked old.marks) (marked new.marks) (marked c.insert.new.self) m store r c.args.to c.args.register.inside real c.sound.ensures new.placed c.from-r.result at long c.carry.ensures c.sound-2.ensures c.number-tag.result tag;
+      zeros_blank = blank_set new.registers r c.from-r.result c.args.to at real new.zeros_blank;
+    }

@@ -4,4 +4,4 @@ use Rattle.file.proofs.data.DataRegisters.on_any_store.Goals as goal
 
 pub returns : goal.returns
 unfolding stands
-returns c m other = hands _ _ _ m other c.sound.ensures
+returns c m other = hands _ _ c.args.self.now.placed c.sound.ensures _ m other

@@ -7,7 +7,7 @@ use Rattle.file.proofs.data.DataRegisters.send_back.Goals as goal
 
 pub invariant_of-self : goal.invariant_of-self
 invariant_of-self g c =
-    record { quiet = sent_quiet (names c.args.self.now.bank) _ _ _ (c.remove.ensures ∙ ap (λ x. with_mark (marked c.args.self.now.marks) x false) c.number.ensures) c.args.self.now.quiet; typed = c.args.self.now.typed }
+    record { quiet = sent_quiet (names c.args.self.now.bank) _ _ _ (c.remove.ensures ∙ ap (λ x. with_mark (marked c.args.self.now.marks) x false) c.number.ensures) c.args.self.now.quiet; sized = c.args.self.now.sized; placed = c.args.self.now.placed; zeros_blank = c.args.self.now.zeros_blank }
 
 pub returns-clause-data : goal.returns-clause-data
 unfolding stands

@@ -1,10 +1,8 @@
 use Rattle.std.proofs.Common.{◌∙◌}
-use Rattle.tags.specs.Meaning.{names}
 use Rattle.file.specs.Instructions.{stands}
-use Rattle.file.proofs.Tags.{carries}
 use Rattle.file.proofs.Taking.{words_are}
 use Rattle.file.proofs.instructions.InstructionRegisters.bytes.Goals as goal
 
 pub returns : goal.returns
 unfolding stands
-returns c = c.bytes.ensures ∙ words_are _ _ _ c.args.register.inside c.sound.ensures (carries (names c.args.self.now.bank) c.args.register.number c.tag.result.number c.tag.ensures.real c.tag.ensures.zero)
+returns c = c.bytes.ensures ∙ words_are _ _ _ c.args.register.inside c.sound.ensures c.tag.ensures.tag

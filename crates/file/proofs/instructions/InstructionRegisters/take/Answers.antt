@@ -4,4 +4,4 @@ use Rattle.file.proofs.instructions.InstructionRegisters.take.Goals as goal
 
 pub returns : goal.returns
 unfolding stands
-returns g c = took _ _ _ _ _ c.args.register.inside c.sound.ensures c.go.ensures
+returns g c = took _ _ _ _ _ c.args.register.inside c.sound.ensures c.move_to.ensures

@@ -10,6 +10,6 @@ pub returns : goal.returns
 unfolding names names_of
 returns c =
     let b = c.args.self.now in
-    let e = last_is b.columns.bytes c.args.register.number c.tag.result.number (shown b) c.args.register.inside c.tag.result.inside c.tag.ensures.real c.tag.ensures.zero in
+    let e = last_is b.columns.bytes c.args.register.number c.tag.result.number (shown b) c.args.register.inside c.tag.result.inside c.tag.ensures.real (λ z. grind (arith, c.tag.ensures.tag)) in
     let f = c.count.ensures in
     grind (arith, nat_tests)
