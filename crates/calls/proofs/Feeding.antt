@@ -5,6 +5,7 @@ use Rattle.std.proofs.lemmas.List.{length-append, length-take, take_min}
 use Rattle.std.proofs.lemmas.List.Sums.{fold-append}
 use Rattle.flat.specs.declared.refusal.Refusal.{Refusal}
 use Rattle.store.specs.Meaning.{Meaning, Sound}
+use Rattle.trail.specs.declared.FullTrail.{FullTrail}
 use Rattle.trail.specs.declared.Trail.{Trail}
 use Rattle.trail.specs.Trails.{space as space_of, Added, Adds}
 use Rattle.trail.proofs.Adding.{added_none, added_then, space_after}
@@ -91,7 +92,7 @@ fed_count : (s : Slots) (calls : List Call) (m : Meaning) → length (fed s call
 fed_count s calls m = answer_count s calls (unfed m) ∙ zero-add (length calls)
 
 -- where there is space, a record is added
-pub is_added : {X Y : Type 0} {before after : Trail X} {x : X} (r : Result Y Refusal) → 0 < space_of before → Adds before x r after → IsOk r × Added before after (x ∷ [])
+pub is_added : {X Y : Type 0} {before after : Trail X} {x : X} (r : Result Y FullTrail) → 0 < space_of before → Adds before x r after → IsOk r × Added before after (x ∷ [])
 is_added (Ok y) h a = (refl, a.1)
 is_added (Err why) h a = absurd (omega (arith, a.0))
 

@@ -1,6 +1,6 @@
 // Why a program at the desk ends early.
 use bench::FileFault;
-use refusal::Refusal;
+use flat::Refusal;
 use std::alloc::{AllocError, AllocFailed};
 use std::io;
 

@@ -1,7 +1,9 @@
 -- The commands of the console, and what each does to the machine.
-use Rattle.std.specs.Prelude.{ℕ, if◌then◌else◌, Ok, Err, Result, ◌==◌}
-use Rattle.refusal.specs.declared.Refusal.{Refusal}
+use Rattle.std.specs.Prelude.{ℕ, if◌then◌else◌, Some, None, Option, Ok, Err, Result, ◌==◌}
+use Rattle.flat.specs.declared.refusal.Refusal.{Refusal}
 use Rattle.flat.specs.Calls.{Flat, Called, answered, step_call, run, flush}
+use Rattle.flat.specs.declared.call.Call.{Call}
+use Rattle.flat.specs.declared.call.Call.TheVariants.{Step as StepCall, Run as RunCall, Flush as FlushCall}
 use Rattle.panel.specs.declared.commands.Command.{Command}
 use Rattle.panel.specs.declared.commands.Command.TheVariants.{Step, Run, Flush, End, Skip, Unknown}
 
@@ -14,6 +16,15 @@ command_of letter =
     else if letter == 113 then End
     else if letter == 10 then Skip
     else Unknown
+
+-- The call that a command makes: s one step, g a run of up to 1,000 steps, f a flush, and all else none.
+abbrev pub call_of : Command → Option Call
+call_of Step = Some StepCall
+call_of Run = Some (RunCall 1000)
+call_of Flush = Some FlushCall
+call_of End = None
+call_of Skip = None
+call_of Unknown = None
 
 -- That a call was made or refused, without what it answers.
 abbrev pub made : {X : Type 0} → Result X Refusal → Result (Unit {0}) Refusal

@@ -1,11 +1,11 @@
 -- The lines that are printed after a command, and of a refused image.
-use Rattle.std.specs.Prelude.{ℕ, ◌-◌, List, ◌++◌, encode_utf8, length, replicate, codes, true}
-use Rattle.std.specs.Fmt.{decimal, digits}
+use Rattle.std.specs.Prelude.{ℕ, List, ◌++◌, encode_utf8, codes}
+use Rattle.std.specs.Fmt.{decimal}
 use Rattle.flat.specs.Calls.{Flat, Called, answered, when_warm}
 use Rattle.flat.specs.Machine.{Machine, ipc_address}
-use Rattle.flat.specs.declared.control.Mode.{Mode}
-use Rattle.flat.specs.declared.control.Mode.TheVariants.{User, Supervisor}
-use Rattle.refusal.specs.Numbers.{number}
+use Rattle.image.specs.Refusals.{refusal_number}
+use Rattle.text.specs.Hex.{hex}
+use Rattle.text.specs.Modes.{mode_text}
 use Rattle.panel.specs.declared.refused.RefusedImage.{RefusedImage}
 use Rattle.panel.specs.declared.shown.Line.{Line}
 
@@ -17,19 +17,10 @@ line_of letter m = record { letter = letter; mode = m.control.mode; address = ip
 abbrev pub line_call : ℕ → Flat → Called Line
 line_call letter = when_warm (λ f. answered (line_of letter f.machine) f)
 
--- The letter of a mode.
-abbrev pub mode_text : Mode → List ℕ
-mode_text User = codes "U"
-mode_text Supervisor = codes "S"
-
--- The capital hexadecimal digits of a number, with zeros (code 48) in front of them up to this many.
-abbrev pub hex : ℕ → ℕ → List ℕ
-hex count n = replicate (count - length (digits 16 true n)) 48 ++ digits 16 true n
-
 -- The printed line, with one space between.
 abbrev pub text_of : Line → List ℕ
 text_of line = encode_utf8 line.letter ++ codes " " ++ mode_text line.mode ++ codes " " ++ hex 8 line.address ++ codes " " ++ hex 8 line.xct
 
 -- The line of a refused image: x, a space and the refusal's number.
 abbrev pub refused_text : RefusedImage → List ℕ
-refused_text image = codes "x " ++ decimal (number image.0)
+refused_text image = codes "x " ++ decimal (refusal_number image.0)

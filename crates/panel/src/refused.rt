@@ -2,11 +2,11 @@
 ghost use Rattle.std.specs.Prelude.{Some};
 ghost use Rattle.panel.specs.Lines.{refused_text};
 
-use refusal::Refusal;
+use image::ImageRefusal;
 use std::fmt;
 
 #[derive(Clone, Copy, PartialEq, Eq, Debug)]
-pub struct RefusedImage(pub Refusal);
+pub struct RefusedImage(pub ImageRefusal);
 
 // Written out, since its text is promised.
 impl fmt::Display for RefusedImage {

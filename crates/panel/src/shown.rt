@@ -1,15 +1,14 @@
 // The line that is printed after a command.
 ghost use Rattle.std.specs.Prelude.{◌≡◌, Some};
 ghost use Rattle.store.specs.Meaning.{Meaning};
-ghost use Rattle.file.specs.Files.{stands};
-ghost use Rattle.panel.specs.Lines.{line_call, mode_text, text_of};
+ghost use Rattle.calls.specs.Files.{stands};
+ghost use Rattle.panel.specs.Lines.{line_call, text_of};
 
-use crate::hex::Hex;
-use file::File;
-use flat::Mode;
-use refusal::Refusal;
+use calls::File;
+use flat::{Mode, Refusal};
 use std::fmt;
 use tags::Register;
+use text::{Hex, mode_text};
 
 // ipc is this instruction register of its mode.
 const IPC: u8 = 63;
@@ -25,7 +24,7 @@ pub struct Line {
 
 impl Line {
     // The line that a letter is answered with, on a warm file.
-    #[tactic(auto, unfolding(file::specs::Files::stands, file::specs::Machine::stands, flat::specs::Calls::cold))]
+    #[tactic(auto, unfolding(calls::specs::Files::stands, file::specs::Machine::stands, flat::specs::Calls::cold))]
     pub fn of(letter: char, file: &File) -> Result<Line, Refusal>
         ensures { (m : Meaning) → result ≡ (line_call letter (stands file.now m)).answer }
     {
@@ -39,16 +38,6 @@ impl Line {
             address,
             xct,
         })
-    }
-}
-
-// The letter of a mode.
-pub fn mode_text(mode: Mode) -> &'static str
-    ensures { result.now ≡ mode_text mode }
-{
-    match mode {
-        Mode::User => "U",
-        Mode::Supervisor => "S",
     }
 }
 

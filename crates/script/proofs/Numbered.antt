@@ -1,8 +1,8 @@
 -- Where a line is no other call with numbers, a trace is what is left.
 use Rattle.std.proofs.Common.{◌≡◌, ◌↔◌, ℕ, ◌≤◌, List, ◌++◌, codes, arith, Option, Some}
 use Rattle.std.specs.Fmt.{decimal}
-use Rattle.history.specs.declared.call.Call.{Call}
-use Rattle.history.specs.declared.call.Call.TheVariants.{Boot, Step, Run, Trace, Pin, ShowData, ShowInstruction, ShowRest, Flush, Halt}
+use Rattle.flat.specs.declared.call.Call.{Call}
+use Rattle.flat.specs.declared.call.Call.TheVariants.{Boot, Step, Run, Trace, Pin, ShowData, ShowInstruction, ShowRest, Flush, Halt}
 use Rattle.script.specs.Kinds.{HasNumbers, IsTrace}
 use Rattle.script.specs.Texts.{Fits, text_of}
 
@@ -18,7 +18,7 @@ pub left : (line : List ℕ) (r : Option Call) → Absent (codes "run ") 4294967
 left line r run d i trace (Run n) = (λ h. absurd ((trace (Run n)).0 h).0, λ x. absurd (run n (omega arith) x.2))
 left line r run d i trace (ShowData n) = (λ h. absurd ((trace (ShowData n)).0 h).0, λ x. absurd (d n (omega arith) x.2))
 left line r run d i trace (ShowInstruction n) = (λ h. absurd ((trace (ShowInstruction n)).0 h).0, λ x. absurd (i n (omega arith) x.2))
-left line r run d i trace (Trace limit steps lines) = trace (Trace limit steps lines)
+left line r run d i trace (Trace limit most) = trace (Trace limit most)
 left line r run d i trace Boot = (λ h. absurd ((trace Boot).0 h).0, λ x. absurd x.0)
 left line r run d i trace Step = (λ h. absurd ((trace Step).0 h).0, λ x. absurd x.0)
 left line r run d i trace (Pin up) = (λ h. absurd ((trace (Pin up)).0 h).0, λ x. absurd x.0)

@@ -1,12 +1,12 @@
 // The call that a line asks for.
 ghost use Rattle.std.specs.Prelude.{◌≡◌, ◌↔◌, ◌≤◌, ◌++◌, ℕ, List, codes, Some, IfSome, MatchOption};
 ghost use Rattle.std.specs.Fmt.{decimal};
-ghost use Rattle.history.specs.declared.call.Call.{Call};
+ghost use Rattle.flat.specs.declared.call.Call.{Call};
 ghost use Rattle.script.specs.Texts.{Fits, text_of};
 ghost use Rattle.script.specs.Kinds.{HasNumbers, IsTrace};
 
 use crate::numbers::number_of;
-use history::Call;
+use flat::{Call, Slots};
 
 // The number behind these words, if it is not over `most`.
 fn number_after(words: &str, line: &str, most: u64) -> Option<u64>
@@ -35,10 +35,13 @@ fn trace_of(line: &str) -> Option<Call>
     let (limit, rest) = number_before(rest, u64::from(u32::MAX))?;
     let (steps, rest) = number_before(rest, u64::MAX)?;
     let lines = number_of(rest, u64::MAX)?;
-    Some(Call::Trace {
-        limit: limit as u32,
+    let most = Slots {
         steps: steps as usize,
         lines: lines as usize,
+    };
+    Some(Call::Trace {
+        limit: limit as u32,
+        most,
     })
 }
 

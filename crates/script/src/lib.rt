@@ -1,4 +1,4 @@
-// Scripts: the call that a line of text asks for. It uses the calls as values, of `history`.
+// Scripts: the call that a line of text asks for. It uses the calls as values, of `flat`.
 #![tactic(auto)]
 
 mod calls;

@@ -1,6 +1,6 @@
 // Why the program ends early.
 use bench::FileFault;
-use refusal::Refusal;
+use flat::Refusal;
 use std::io;
 use store::LineFault;
 

@@ -9,8 +9,7 @@ mod lent;
 #[cfg(test)]
 mod tests {
     use crate::lent::{Poke, Same};
-    use flat::Mode;
-    use refusal::Refusal;
+    use flat::{Mode, Refusal};
     use tags::{Bank, Register};
 
     fn user(field: u8) -> Register {

@@ -1,9 +1,9 @@
 -- The text of a script, line by line.
 use Rattle.std.proofs.Common.{◌≡◌, ℕ, List, [], ◌∷◌, ◌++◌, codes, drop, take, length, refl, arith, Result, Option, Some, None}
 use Rattle.flat.specs.declared.records.StepRecord.{StepRecord}
-use Rattle.history.specs.declared.answer.Answer.{Answer}
-use Rattle.history.specs.declared.call.Call.{Call}
-use Rattle.refusal.specs.declared.Refusal.{Refusal}
+use Rattle.flat.specs.declared.answer.Answer.{Answer}
+use Rattle.flat.specs.declared.call.Call.{Call}
+use Rattle.flat.specs.declared.refusal.Refusal.{Refusal}
 use Rattle.telling.specs.Reports.{answered_text, made, script_text, sent}
 
 pub ended : (script : List (Option Call)) (answers : List (Result Answer Refusal)) (steps : List StepRecord) (lines : List ℕ) → length script ≡ 0 → script_text script answers steps lines ≡ []

@@ -1,10 +1,10 @@
 -- What is printed of a whole replay.
-use Rattle.std.specs.Prelude.{ℕ, List, [], ◌∷◌, ◌++◌, codes, drop, take, flat_map, Ok, Result, Option, Some, None}
+use Rattle.std.specs.Prelude.{ℕ, List, [], ◌∷◌, ◌++◌, codes, drop, take, flat_map, Ok, Err, Result, Option, Some, None}
 use Rattle.flat.specs.declared.records.StepRecord.{StepRecord}
-use Rattle.history.specs.declared.answer.Answer.{Answer}
-use Rattle.history.specs.declared.answer.Answer.TheVariants.{Traced}
-use Rattle.history.specs.declared.call.Call.{Call}
-use Rattle.refusal.specs.declared.Refusal.{Refusal}
+use Rattle.flat.specs.declared.answer.Answer.{Answer}
+use Rattle.flat.specs.declared.answer.Answer.TheVariants.{Booted, Stepped, Ran, Traced, Pinned, Data, Instruction, Rest, Flushed, Halted}
+use Rattle.flat.specs.declared.call.Call.{Call}
+use Rattle.flat.specs.declared.refusal.Refusal.{Refusal}
 use Rattle.telling.specs.Texts.{answer_text, record_text, register_of, sent_text}
 
 -- A line for each step, and for each line that was sent back; each ends in a newline (code 10).
@@ -21,12 +21,30 @@ answered_text call answer steps lines = answer_text (register_of call) answer ++
 -- How many records a call added.
 abbrev pub made : Result Answer Refusal → ℕ
 made (Ok (Traced ran n)) = ran.steps
-made _ = 0
+made (Ok Booted) = 0
+made (Ok (Stepped x)) = 0
+made (Ok (Ran ran)) = 0
+made (Ok Pinned) = 0
+made (Ok (Data shown)) = 0
+made (Ok (Instruction shown)) = 0
+made (Ok (Rest control)) = 0
+made (Ok (Flushed count)) = 0
+made (Ok (Halted count)) = 0
+made (Err why) = 0
 
 -- How many lines.
 abbrev pub sent : Result Answer Refusal → ℕ
 sent (Ok (Traced ran n)) = n
-sent _ = 0
+sent (Ok Booted) = 0
+sent (Ok (Stepped x)) = 0
+sent (Ok (Ran ran)) = 0
+sent (Ok Pinned) = 0
+sent (Ok (Data shown)) = 0
+sent (Ok (Instruction shown)) = 0
+sent (Ok (Rest control)) = 0
+sent (Ok (Flushed count)) = 0
+sent (Ok (Halted count)) = 0
+sent (Err why) = 0
 
 -- The lines of a script, each with its call if it has one. Each call has the next answer, and each trace the next records and lines sent back; a line that is no call prints a question mark. Where there is no answer left, nothing more is printed.
 unfoldable pub script_text : List (Option Call) → List (Result Answer Refusal) → List StepRecord → List ℕ → List ℕ

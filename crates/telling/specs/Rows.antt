@@ -1,6 +1,6 @@
 -- The bytes and the words of a line in rows.
 use Rattle.std.specs.Prelude.{ℕ, suc, zero, ◌+◌, ◌*◌, List, [], ◌∷◌, ◌++◌, codes, slice_range, flat_map}
-use Rattle.panel.specs.Lines.{hex}
+use Rattle.text.specs.Hex.{hex}
 
 -- Bytes in 2 digits and words in 8, with a space in front of each.
 abbrev pub byte_row : List ℕ → List ℕ

@@ -1,8 +1,8 @@
 -- What is printed of an answer, of a trace's record, and of a line that was sent back.
 use Rattle.std.specs.Prelude.{ℕ, Bool, true, false, List, ◌∷◌, ◌++◌, codes, Ok, Err, Result}
 use Rattle.std.specs.Fmt.{decimal}
-use Rattle.refusal.specs.Numbers.{number}
-use Rattle.refusal.specs.declared.Refusal.{Refusal}
+use Rattle.flat.specs.Refusals.{refusal_number}
+use Rattle.flat.specs.declared.refusal.Refusal.{Refusal}
 use Rattle.word.specs.Texts.{element_text}
 use Rattle.flat.specs.Exceptions.{exception_number}
 use Rattle.flat.specs.Operations.{swiarg}
@@ -13,11 +13,12 @@ use Rattle.flat.specs.declared.records.Ran.{Ran}
 use Rattle.flat.specs.declared.records.StepRecord.{StepRecord}
 use Rattle.flat.specs.declared.shown.ShownData.{ShownData}
 use Rattle.flat.specs.declared.shown.ShownInstruction.{ShownInstruction}
-use Rattle.history.specs.declared.answer.Answer.{Answer}
-use Rattle.history.specs.declared.answer.Answer.TheVariants.{Booted, Stepped as StepAnswer, Ran as RunAnswer, Traced, Pinned, Data, Instruction, Rest, Flushed, Halted}
-use Rattle.history.specs.declared.call.Call.{Call}
-use Rattle.history.specs.declared.call.Call.TheVariants.{ShowData, ShowInstruction}
-use Rattle.panel.specs.Lines.{hex, mode_text}
+use Rattle.flat.specs.declared.answer.Answer.{Answer}
+use Rattle.flat.specs.declared.answer.Answer.TheVariants.{Booted, Stepped as StepAnswer, Ran as RunAnswer, Traced, Pinned, Data, Instruction, Rest, Flushed, Halted}
+use Rattle.flat.specs.declared.call.Call.{Call}
+use Rattle.flat.specs.declared.call.Call.TheVariants.{Boot, Step, Run, Trace, Pin, ShowData, ShowInstruction, ShowRest, Flush, Halt}
+use Rattle.text.specs.Hex.{hex}
+use Rattle.text.specs.Modes.{mode_text}
 use Rattle.telling.specs.Rows.{byte_rows, word_rows, parts}
 
 -- The digit of a bit.
@@ -44,7 +45,7 @@ sent_text line = codes "  sent " ++ decimal line
 
 -- A data register: its address, its type, and below them its bytes.
 abbrev pub data_text : ℕ → ShownData → List ℕ
-data_text r shown = codes "d " ++ decimal r ++ codes " address " ++ hex 8 shown.address ++ codes " type " ++ element_text shown.kind ++ byte_rows (codes " ") shown.bytes
+data_text r shown = codes "d " ++ decimal r ++ codes " address " ++ hex 8 shown.register.address ++ codes " type " ++ element_text shown.register.kind ++ byte_rows (codes " ") shown.bytes
 
 -- An instruction register: its address, and below it its words.
 abbrev pub instruction_text : ℕ → ShownInstruction → List ℕ
@@ -65,7 +66,14 @@ rest_text control = codes "rest mode " ++ mode_text control.mode ++ codes " ie "
 abbrev pub register_of : Call → ℕ
 register_of (ShowData r) = r
 register_of (ShowInstruction r) = r
-register_of _ = 0
+register_of Boot = 0
+register_of Step = 0
+register_of (Run limit) = 0
+register_of (Trace limit most) = 0
+register_of (Pin up) = 0
+register_of ShowRest = 0
+register_of Flush = 0
+register_of Halt = 0
 
 -- What a call answered that shows this register, or none. A refused call prints x and the refusal's number.
 abbrev pub answer_text : ℕ → Result Answer Refusal → List ℕ
@@ -79,4 +87,4 @@ answer_text r (Ok (Instruction shown)) = instruction_text r shown
 answer_text r (Ok (Rest control)) = rest_text control
 answer_text r (Ok (Flushed count)) = codes "flush " ++ decimal count
 answer_text r (Ok (Halted count)) = codes "halt " ++ decimal count
-answer_text r (Err why) = codes "x " ++ decimal (number why)
+answer_text r (Err why) = codes "x " ++ decimal (refusal_number why)

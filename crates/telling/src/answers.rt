@@ -4,8 +4,7 @@ ghost use Rattle.telling.specs.Texts.{answer_text, register_of};
 
 use crate::outcomes::{Outcome, RanText};
 use crate::shown::{DataText, InstructionText, RestText};
-use history::{Answer, Call};
-use refusal::Refusal;
+use flat::{Answer, Call, Refusal};
 use std::fmt;
 
 // What a call answered. The call has the number of the register that it shows.
@@ -21,7 +20,14 @@ fn register_of(call: Call) -> u8
 {
     match call {
         Call::ShowData(number) | Call::ShowInstruction(number) => number,
-        _ => 0,
+        Call::Boot
+        | Call::Step
+        | Call::Run(_)
+        | Call::Trace { .. }
+        | Call::Pin(_)
+        | Call::ShowRest
+        | Call::Flush
+        | Call::Halt => 0,
     }
 }
 

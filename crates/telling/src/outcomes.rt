@@ -3,8 +3,8 @@ ghost use Rattle.std.specs.Prelude.{Some};
 ghost use Rattle.telling.specs.Texts.{outcome_text, ran_text};
 
 use flat::{Ran, Stepped};
-use panel::Hex;
 use std::fmt;
+use text::Hex;
 
 // That a step is done, or the exception that it entered.
 #[derive(Clone, Copy)]

@@ -4,8 +4,8 @@ ghost use Rattle.telling.specs.Texts.{record_text, sent_text};
 
 use crate::outcomes::Outcome;
 use flat::StepRecord;
-use panel::{Hex, mode_text};
 use std::fmt;
+use text::{Hex, mode_text};
 
 // The line of a step.
 #[derive(Clone, Copy)]

@@ -5,9 +5,7 @@ ghost use Rattle.telling.specs.Entries.{entry_text, left_text};
 
 use crate::answers::AnswerText;
 use crate::records::{RecordText, SentText};
-use flat::StepRecord;
-use history::{Answer, Call};
-use refusal::Refusal;
+use flat::{Answer, Call, Refusal, StepRecord};
 use std::fmt;
 
 // A line for each step.
@@ -67,7 +65,18 @@ fn made(answer: &Result<Answer, Refusal>) -> usize
 {
     match answer {
         Ok(Answer::Traced { ran, .. }) => ran.steps as usize,
-        _ => 0,
+        Ok(
+            Answer::Booted
+            | Answer::Stepped(_)
+            | Answer::Ran(_)
+            | Answer::Pinned
+            | Answer::Data(_)
+            | Answer::Instruction(_)
+            | Answer::Rest(_)
+            | Answer::Flushed(_)
+            | Answer::Halted(_),
+        )
+        | Err(_) => 0,
     }
 }
 
@@ -77,7 +86,18 @@ fn sent(answer: &Result<Answer, Refusal>) -> usize
 {
     match answer {
         Ok(Answer::Traced { sent, .. }) => *sent,
-        _ => 0,
+        Ok(
+            Answer::Booted
+            | Answer::Stepped(_)
+            | Answer::Ran(_)
+            | Answer::Pinned
+            | Answer::Data(_)
+            | Answer::Instruction(_)
+            | Answer::Rest(_)
+            | Answer::Flushed(_)
+            | Answer::Halted(_),
+        )
+        | Err(_) => 0,
     }
 }
 

@@ -4,9 +4,8 @@
 ghost use Rattle.std.specs.Prelude.{Some};
 ghost use Rattle.telling.specs.Rows.{byte_row, byte_rows, word_row, word_rows};
 
-use crate::hex::HexByte;
-use panel::Hex;
 use std::fmt;
+use text::{Hex, HexByte};
 
 const ROWS: usize = 8;
 

@@ -6,9 +6,9 @@ ghost use Rattle.flat.specs.Operations.{swiarg};
 ghost use Rattle.telling.specs.Texts.{bit_text, data_text, instruction_text, rest_text, swiargs_text};
 
 use crate::rows::{ByteRows, WordRows};
-use flat::{Control, ShownData, ShownInstruction};
-use panel::{Hex, mode_text};
+use flat::{Control, DataRegister, ShownData, ShownInstruction};
 use std::fmt;
+use text::{Hex, mode_text};
 
 const SWIARGS: usize = 4;
 
@@ -24,8 +24,8 @@ impl<'a> fmt::Display for DataText<'a> {
 
     fn fmt<W: fmt::Write>(&self, f: &mut fmt::Formatter<W>) -> fmt::Result {
         let DataText { number, shown } = *self;
-        let address = Hex(shown.address);
-        let kind = shown.kind;
+        let DataRegister { address, kind } = shown.register;
+        let address = Hex(address);
         let rows = ByteRows {
             margin: " ",
             bytes: &shown.bytes,

@@ -1,5 +1,5 @@
 // Why the program ends early.
-use refusal::Refusal;
+use flat::Refusal;
 use std::io;
 use store::LineFault;
 
