@@ -9,8 +9,8 @@ use Rattle.calls.specs.Files.{stands}
 use Rattle.file.specs.Machine.{stands as machine_stands}
 use Rattle.file.specs.Data.{stands as data_stands}
 use Rattle.file.specs.Standing.{data_of}
-use Rattle.calls.specs.declared.file.File.{File}
-use Rattle.calls.specs.declared.file.File.TheVariants.{Cold, Warm}
+use Rattle.calls.specs.declared.files.File.{File}
+use Rattle.calls.specs.declared.files.File.TheVariants.{Cold, Warm}
 
 words_are : (line ws : List ℕ) (n : ℕ) → n ≤ length ws → ((k : ℕ) → k < n → slice_index ws k ≡ little_endian line (4 * k)) → take n ws ≡ words_from line n
 unfolding words_from

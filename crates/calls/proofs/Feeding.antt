@@ -22,8 +22,8 @@ use Rattle.calls.specs.Files.{stands}
 use Rattle.calls.specs.Law.{Answers, Continues, Lawful, StoreKept}
 use Rattle.calls.specs.Made.{Makes}
 use Rattle.calls.specs.Trails.{Keeps, space}
-use Rattle.calls.specs.declared.file.File.{File}
-use Rattle.calls.specs.declared.file.File.TheVariants.{Cold}
+use Rattle.calls.specs.declared.files.File.{File}
+use Rattle.calls.specs.declared.files.File.TheVariants.{Cold}
 use Rattle.calls.specs.declared.trails.Trails.{Trails}
 
 -- nothing was added to the trails, or more was

@@ -5,8 +5,8 @@ use Rattle.tags.specs.Invariants.{free}
 use Rattle.tags.specs.declared.bank.Bank.{Bank}
 use Rattle.file.specs.declared.machine.Machine.{Machine}
 use Rattle.calls.specs.Law.{AllTagsRight, TagsRight, held, line, tag}
-use Rattle.calls.specs.declared.file.File.{File}
-use Rattle.calls.specs.declared.file.File.TheVariants.{Cold, Warm}
+use Rattle.calls.specs.declared.files.File.{File}
+use Rattle.calls.specs.declared.files.File.TheVariants.{Cold, Warm}
 
 module _ (b : Bank) where
   -- a register carries the tag of its line

@@ -7,9 +7,9 @@ use Rattle.store.specs.Meaning.{Meaning}
 use Rattle.flat.specs.Calls.{Flat, Traced, cold}
 use Rattle.flat.specs.declared.records.Ran.{Ran}
 use Rattle.file.specs.Machine.{stands as machine_stands}
-use Rattle.calls.specs.declared.file.File.{File}
+use Rattle.calls.specs.declared.files.File.{File}
 use Rattle.file.specs.declared.machine.Machine.{Machine}
-use Rattle.calls.specs.declared.file.File.TheVariants.{Cold, Warm}
+use Rattle.calls.specs.declared.files.File.TheVariants.{Cold, Warm}
 
 -- A cold file stands for the cold machine, a warm one for that of its registers.
 unfoldable pub stands : File → Meaning → Flat

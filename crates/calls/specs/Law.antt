@@ -21,8 +21,8 @@ use Rattle.tags.specs.Invariants.{carriers}
 use Rattle.tags.specs.declared.bank.Bank.{Bank}
 use Rattle.calls.specs.Files.{stands}
 use Rattle.calls.specs.Trails.{Keeps, space}
-use Rattle.calls.specs.declared.file.File.{File}
-use Rattle.calls.specs.declared.file.File.TheVariants.{Cold, Warm}
+use Rattle.calls.specs.declared.files.File.{File}
+use Rattle.calls.specs.declared.files.File.TheVariants.{Cold, Warm}
 use Rattle.calls.specs.declared.trails.Trails.{Trails}
 
 -- a. h is what the flat machine was fed: what traces kept is in the trails, and the file stands for its machine on the store.

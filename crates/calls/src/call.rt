@@ -8,7 +8,7 @@ ghost use Rattle.calls.specs.Law.{Continues};
 ghost use Rattle.calls.specs.Made.{Makes};
 ghost use Rattle.calls.specs.Trails.{space};
 
-use crate::file::File;
+use crate::files::File;
 use crate::trails::Trails;
 use flat::{Answer, Call, Refusal, Slots};
 use store::Store;

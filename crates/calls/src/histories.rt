@@ -5,7 +5,7 @@ ghost use Rattle.trail.specs.Trails.{Added, space as space_of};
 ghost use Rattle.calls.specs.Law.{Lawful};
 ghost use Rattle.calls.specs.Trails.{space};
 
-use crate::file::File;
+use crate::files::File;
 use crate::trails::Trails;
 use flat::{Answer, Call, Refusal};
 use store::Store;

@@ -6,7 +6,8 @@ use store::Ram;
 use trail::Trail;
 use word::ElementType::U8;
 
-const UNANSWERED: Result<Answer, Refusal> = Err(Refusal::FullTrail);
+// What a slot holds that got no answer.
+const UNANSWERED: Result<Answer, Refusal> = Ok(Answer::Halted(NO_LINE));
 
 fn is_cold(file: &File) -> bool {
     match file {

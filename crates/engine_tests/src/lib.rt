@@ -1,7 +1,7 @@
 // The engine at work: single instructions on a file and a store, each opcode and each exception at least
 // once, and the calls step and run. What is expected of each stands here as it was written by hand from
-// docs/machine.md and docs/lines.md. It uses `calls` and `store`, the words of `flat` and `refusal` that they
-// answer with, `word` for the instructions, and `tags` for the counts of tags.
+// docs/machine.md and docs/lines.md. It uses `calls` and `store`, the words of `flat` that they answer with,
+// `word` for the instructions, and `tags` for registers and the counts of tags.
 #![tactic(auto)]
 
 #[cfg(test)]

@@ -1,6 +1,6 @@
 // The file at work: what its calls answer and refuse, what they leave in the store, and what registers
-// show. Every answer here stands as a number that was written by hand. It uses
-// `calls` and `file`, `store` for what the file is handed, and `tags`, `flat`, `word` and `refusal` for what it is told and answers.
+// show. Every answer here stands as a number that was written by hand. It uses `calls` and `file`, `store`
+// for what the file is handed, and `tags`, `flat` and `word` for what it is told and answers.
 #![tactic(auto)]
 
 #[cfg(test)]

@@ -2,7 +2,7 @@ use Rattle.std.proofs.Common.{◌∙◌, sym, ap}
 use Rattle.flat.specs.Calls.{backing}
 use Rattle.calls.specs.Files.{stands}
 use Rattle.calls.proofs.Ending.{halted, stands_on}
-use Rattle.calls.proofs.file.File.halt.Goals as goal
+use Rattle.calls.proofs.files.File.halt.Goals as goal
 
 pub returns-clause-file : goal.returns-clause-file
 unfolding stands
