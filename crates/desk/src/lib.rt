@@ -1,7 +1,7 @@
 // The desk: the console as a program has it. It loads bench.img into the stores of the bench, boots a
 // machine on them, and answers each letter of the input until the end. `replay_desk` loads the image in the same
 // way and fails for the same reasons. It uses `bench` for the stores and
-// the file, `panel` for what letters do and what is printed, and `file` for the machine; programs only
+// the file, `panel` for what letters do and what is printed, and `calls` for the machine; programs only
 // call it.
 #![tactic(auto)]
 
@@ -12,8 +12,8 @@ ghost use Rattle.bench.specs.declared.fault.FileFault.{FileFault};
 mod failure;
 
 use bench::{FileFault, RAM_BYTES, load_file, on_bench};
+use calls::File;
 pub use failure::Failure;
-use file::File;
 use panel::{Command, Line, RefusedImage, command_of, obey};
 use std::io::Read;
 use store::{Ram, Store};
@@ -35,11 +35,12 @@ pub fn load<S: Store>(rt: &HostRuntime, store: &mut S) -> Result<(), Failure>
 fn talk<S: Store>(rt: &HostRuntime, file: &mut File, store: &mut S) -> Result<(), Failure> {
     for byte in rt.reader().bytes() {
         let letter = char::from(byte?);
-        match command_of(letter) {
+        let command = command_of(letter);
+        match command {
             Command::End => break,
             Command::Skip => {}
             Command::Unknown => println!(rt; "?")?,
-            command => {
+            Command::Step | Command::Run | Command::Flush => {
                 obey(command, file, store)?;
                 println!(rt; "{}", Line::of(letter, file)?)?;
             }

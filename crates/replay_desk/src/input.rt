@@ -1,6 +1,6 @@
 // The script, read from the standard input.
 use desk::Failure;
-use history::Call;
+use flat::Call;
 use script::call_of;
 use std::io::{BufRead, BufReader};
 use std::str;

@@ -1,17 +1,17 @@
 // The replay as a program has it: it reads a script, loads bench.img into the stores of the bench, makes all the
 // calls of the script by one call of `history`, and prints what they answered. It uses `script` and `telling` for
 // what is read and printed, `bench` for the stores, `desk` for loading the image and why a program ends early, and
-// `trail`, `flat`, `store` and `refusal` for what `history` is handed; programs only call it.
+// `trail`, `flat`, `store` and `refusal` for what `history` of `calls` is handed; programs only call it.
 #![tactic(auto)]
 
 mod input;
 
 use crate::input::{calls_of, read_script};
 use bench::{RAM_BYTES, on_bench};
+use calls::{Trails, history};
 pub use desk::Failure;
 use desk::load;
-use flat::{Mode, StepRecord, Stepped};
-use history::{Answer, history};
+use flat::{Answer, Mode, StepRecord, Stepped};
 use refusal::Refusal;
 use std::io;
 use std::io::{BufWriter, Write};
@@ -45,18 +45,20 @@ pub fn replay(rt: &HostRuntime) -> Result<(), Failure> {
     let mut step_slots = vec![in rt.alloc(); BLANK_RECORD; TRAIL_SLOTS]?;
     let mut line_slots = vec![in rt.alloc(); 0u32; TRAIL_SLOTS]?;
     let mut answers = Trail::new(&mut answer_slots);
-    let mut steps = Trail::new(&mut step_slots);
-    let mut lines = Trail::new(&mut line_slots);
+    let mut trails = Trails {
+        steps: Trail::new(&mut step_slots),
+        lines: Trail::new(&mut line_slots),
+    };
     let mut memory = vec![in rt.alloc(); 0; RAM_BYTES]?;
     let mut ram = Ram::new(&mut memory);
     load(rt, &mut ram)?;
     let mut store = on_bench(ram);
-    history(&calls, &mut answers, &mut steps, &mut lines, &mut store);
+    history(&calls, &mut answers, &mut trails, &mut store);
     let report = Report {
         script: &script,
         answers: answers.records(),
-        steps: steps.records(),
-        lines: lines.records(),
+        steps: trails.steps.records(),
+        lines: trails.lines.records(),
     };
     print_report(rt, report)
 }

@@ -1,15 +1,14 @@
 // The program `steps`: boots the engine on RAM with an image, makes some million steps and prints what the
-// machine and then the store hold. `bench/steps.sh` times it. It uses `bench` for the image, `engine` for
-// the steps, and `file`, `flat`, `line`, `store` and `refusal` for what it prints.
+// machine and then the store hold. `bench/steps.sh` times it. It uses `bench` for the image, `calls` for
+// the steps, and `flat`, `word`, `line`, `store` and `refusal` for what it prints.
 #![tactic(auto)]
 
 mod failure;
 mod printing;
 
 use bench::{RAM_BYTES, load_file};
-use engine::{MOST_STEPS, run};
+use calls::{File, MOST_STEPS};
 use failure::Failure;
-use file::File;
 use flat::Stepped;
 use printing::{print_machine, print_store};
 use std::env;
@@ -18,7 +17,7 @@ use store::{Ram, Store};
 // Makes so many runs of a million steps.
 fn run_millions<S: Store>(file: &mut File, millions: u32, store: &mut S) -> Result<(), Failure> {
     for _ in 0..millions {
-        match run(file, MOST_STEPS, store)?.last {
+        match file.run(MOST_STEPS, store)?.last {
             Stepped::Done => {}
             Stepped::Entered(_) => return Err(Failure::Entered),
         }

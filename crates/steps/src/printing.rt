@@ -1,7 +1,7 @@
 // The text of a machine's state. Bytes are left out where they are those printed last, or a line's zeros.
 use crate::failure::Failure;
-use file::File;
-use flat::{Control, Mode};
+use calls::File;
+use flat::{Control, DataRegister, Mode};
 use line::zeros;
 use std::io;
 use store::Store;
@@ -39,7 +39,8 @@ fn print_data(rt: &HostRuntime, file: &File) -> Result<(), Failure> {
     let mut last = zeros();
     for number in 0..128u8 {
         let shown = file.show_data(number)?;
-        println!(rt; "data {number} {} {}", shown.address, u8::from(shown.kind))?;
+        let DataRegister { address, kind } = shown.register;
+        println!(rt; "data {number} {address} {}", u8::from(kind))?;
         if shown.bytes != last {
             print_bytes(rt, &shown.bytes)?;
             last = shown.bytes;

@@ -1,15 +1,16 @@
 // The program `two_widths`: the file on a small task. Two data registers name one line, one as u16 and
 // one as u32; what one writes the other sees, and the store has it once the last of them leaves the line.
-// It uses `store` for stacked stores, `file` for the machine, `tags`, `flat` and `word` for what these are
-// told, and `line` for elements; it only prints.
+// It uses `store` for stacked stores, `calls` and `file` for the machine, `tags`, `flat` and `word` for what
+// these are told, and `line` for elements; it only prints.
 #![tactic(auto)]
 
 mod change;
 mod failure;
 
+use calls::File;
 use change::PutU16;
 use failure::Failure;
-use file::{File, Machine};
+use file::Machine;
 use flat::{DataRegister, Mode};
 use line::{Place, get, zeros};
 use refusal::Refusal;
@@ -116,7 +117,7 @@ fn go<S: Store>(
     let register = Register::try_from(number)?;
     let DataRegister { address, kind } = to;
     print!(rt; "register {number} goes to address {address} as {kind:?}: ")?;
-    match warm(file)?.registers.go(register, to, store) {
+    match warm(file)?.registers.move_to(register, to, store).sent {
         Some(line) => println!(rt; "line {line} is sent back")?,
         None => println!(rt; "no line is sent back")?,
     }
@@ -125,7 +126,7 @@ fn go<S: Store>(
 
 // Writes a number to the u16 element of d5.
 fn write(rt: &HostRuntime, file: &mut File, number: u16) -> Result<(), Failure> {
-    let place = Place::from(file.show_data(D5)?.address);
+    let place = Place::from(file.show_data(D5)?.register.address);
     let register = Register::try_from(D5)?;
     warm(file)?
         .registers
@@ -136,7 +137,8 @@ fn write(rt: &HostRuntime, file: &mut File, number: u16) -> Result<(), Failure> 
 
 fn print_element(rt: &HostRuntime, file: &File, number: u8) -> Result<(), Failure> {
     let shown = file.show_data(number)?;
-    let element = get(&shown.bytes, shown.kind, Place::from(shown.address));
+    let DataRegister { address, kind } = shown.register;
+    let element = get(&shown.bytes, kind, Place::from(address));
     println!(rt; "register {number} shows {element}")?;
     Ok(())
 }
