@@ -1,6 +1,5 @@
 -- A refused call is answered as it was refused.
-use Rattle.std.proofs.Common.{◌≡◌, ◌∙◌, sym, Option, Some, rules}
-use Rattle.flat.specs.declared.call.Call.{Call}
+use Rattle.std.proofs.Common.{◌≡◌, ◌∙◌, sym, Some, rules}
 use Rattle.panel.specs.Commands.{call_of}
 use Rattle.panel.proofs.Obeying.{refused_of}
 use Rattle.panel.proofs.commands.obey.Goals as goal
