@@ -1,5 +1,5 @@
 -- What a command does is what its call does.
-use Rattle.std.proofs.Common.{◌≡◌, refl, Result, Ok, Err, Option, Some, None}
+use Rattle.std.proofs.Common.{◌≡◌, refl, Result, Ok, Err, Some, None}
 use Rattle.flat.specs.declared.refusal.Refusal.{Refusal}
 use Rattle.flat.specs.Calls.{Flat, answered}
 use Rattle.flat.specs.Fed.{answer_as, made as made_call}

@@ -1,7 +1,7 @@
 // The replay as a program has it: it reads a script, loads bench.img into the stores of the bench, makes all the
 // calls of the script by one call of `history`, and prints what they answered. It uses `script` and `telling` for
 // what is read and printed, `bench` for the stores, `desk` for loading the image and why a program ends early, and
-// `trail`, `flat`, and `store` for what `history` of `calls` is handed; programs only call it.
+// `trail`, `flat` and `store` for what `history` of `calls` is handed; programs only call it.
 #![tactic(auto)]
 
 mod input;

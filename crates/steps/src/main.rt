@@ -1,6 +1,6 @@
 // The program `steps`: boots the engine on RAM with an image, makes some million steps and prints what the
 // machine and then the store hold. `bench/steps.sh` times it. It uses `bench` for the image, `calls` for
-// the steps, and `flat`, `word`, `line`, and `store` for what it prints.
+// the steps, and `flat`, `word`, `line` and `store` for what it prints.
 #![tactic(auto)]
 
 mod failure;
