@@ -1,5 +1,5 @@
 -- The engine is fed as the flat machine is.
-use Rattle.std.proofs.Common.{◌≡◌, ◌<◌, ℕ, suc, ◌+◌, ◌-◌, List, [], ◌∷◌, ◌++◌, length, take, get_or, min, fold, Ok, Err, Result, IsOk, refl, sym, subst, ap, ap₂, ◌∙◌, zero-add, arith}
+use Rattle.std.proofs.Common.{◌≡◌, ◌<◌, ℕ, suc, ◌+◌, List, [], ◌∷◌, ◌++◌, length, take, get_or, min, fold, Ok, Err, Result, IsOk, refl, sym, subst, ap, ap₂, ◌∙◌, zero-add, arith}
 use Rattle.std.proofs.Math.Seq.{take-suc}
 use Rattle.std.proofs.lemmas.List.{length-append, length-take, take_min}
 use Rattle.std.proofs.lemmas.List.Sums.{fold-append}
@@ -10,16 +10,15 @@ use Rattle.trail.specs.declared.Trail.{Trail}
 use Rattle.trail.specs.Trails.{space as space_of, Added, Adds}
 use Rattle.trail.proofs.Adding.{added_none, added_then, space_after}
 use Rattle.flat.proofs.StoreLaw.{store_after_each}
-use Rattle.flat.specs.Calls.{Flat, Kept, backing, cold, kept_then, nothing_kept}
+use Rattle.flat.specs.Calls.{Flat, Kept, backing, kept_then, nothing_kept}
 use Rattle.flat.specs.Fed.{Fed, Told, unfed, made, next, one_call, fed, space_left}
 use Rattle.flat.specs.declared.answer.Answer.{Answer}
 use Rattle.flat.specs.declared.call.Call.{Call}
 use Rattle.flat.specs.declared.records.Slots.{Slots}
-use Rattle.flat.specs.declared.records.StepRecord.{StepRecord}
 use Rattle.calls.proofs.Ending.{stands_on}
 use Rattle.calls.proofs.TagsRight.{all_right}
 use Rattle.calls.specs.Files.{stands}
-use Rattle.calls.specs.Law.{Answers, Continues, Lawful, StoreKept}
+use Rattle.calls.specs.Law.{Answers, Continues, Lawful}
 use Rattle.calls.specs.Made.{Makes}
 use Rattle.calls.specs.Trails.{Keeps, space}
 use Rattle.calls.specs.declared.files.File.{File}

@@ -3,7 +3,6 @@ use Rattle.std.proofs.Common.{◌≡◌, ◌≢◌, ℕ, ◌<◌, false, ap, sym
 use Rattle.flat.specs.Registers.{is_zero}
 use Rattle.tags.specs.Invariants.{free}
 use Rattle.tags.specs.declared.bank.Bank.{Bank}
-use Rattle.file.specs.declared.machine.Machine.{Machine}
 use Rattle.calls.specs.Law.{AllTagsRight, TagsRight, held, line, tag}
 use Rattle.calls.specs.declared.files.File.{File}
 use Rattle.calls.specs.declared.files.File.TheVariants.{Cold, Warm}

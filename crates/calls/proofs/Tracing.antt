@@ -1,5 +1,5 @@
 -- The loops of run and trace, as the code has them.
-use Rattle.std.proofs.Common.{◌≡◌, ◌≤◌, ◌<◌, ℕ, ◌+◌, ◌-◌, ◌∷◌, [], Bool, true, false, not, ◌&&◌, nat_lt, length, refl, sym, ap, ap₂, subst, ◌∙◌, arith}
+use Rattle.std.proofs.Common.{◌≡◌, ◌≤◌, ◌<◌, ℕ, ◌+◌, ◌-◌, Bool, true, false, not, ◌&&◌, nat_lt, length, refl, sym, ap, ap₂, subst, ◌∙◌, arith}
 use Rattle.std.proofs.lemmas.Bool.Decides.{nat_tests}
 use Rattle.flat.proofs.Turns.{Reached, begins, turns, ends, breaks}
 use Rattle.flat.specs.Calls.{Kept, Steps, steps_while, traces_on, runs_on, no_steps, one_more, recorded, kept_of_step, kept_then, nothing_kept, has_entered}
@@ -11,7 +11,7 @@ use Rattle.flat.specs.declared.exception.Stepped.TheVariants.{Done}
 use Rattle.flat.specs.declared.records.Ran.{Ran}
 use Rattle.flat.specs.declared.records.Slots.{Slots}
 use Rattle.flat.specs.declared.records.StepRecord.{StepRecord}
-use Rattle.trail.specs.Trails.{Added, space as space_of}
+use Rattle.trail.specs.Trails.{space as space_of}
 use Rattle.trail.proofs.Adding.{space_after}
 use Rattle.calls.proofs.Feeding.{keeps_none, keeps_then}
 use Rattle.calls.specs.Loops.{Ended, beside}
