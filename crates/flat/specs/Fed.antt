@@ -1,5 +1,5 @@
 -- The calls as values, and the flat machine that is fed a list of them.
-use Rattle.std.specs.Prelude.{ℕ, ◌-◌, min, List, [], ◌∷◌, ◌++◌, length, fold, Ok, Err, Result}
+use Rattle.std.specs.Prelude.{◌-◌, min, List, [], ◌∷◌, ◌++◌, length, fold, Ok, Err, Result}
 use Rattle.flat.specs.declared.refusal.Refusal.{Refusal}
 use Rattle.store.specs.Meaning.{Meaning}
 use Rattle.flat.specs.Calls.{Flat, Called, Kept, Traced, cold, boot, step_call, run, trace, pin, show_data, show_instruction, show_rest, flush, halt, kept_then, nothing_kept}

@@ -1,6 +1,5 @@
 -- What each operation does. All operands are those of the machine as it was before the step.
-use Rattle.std.specs.Prelude.{ℕ, suc, ◌+◌, Bool, true, if◌then◌else◌, List, [], ◌∷◌, set, get_or, None, Option, ◌==◌, ℤ, pos}
-use Rattle.word.specs.declared.element.ElementType.{ElementType}
+use Rattle.std.specs.Prelude.{ℕ, suc, ◌+◌, Bool, true, if◌then◌else◌, List, [], ◌∷◌, set, get_or, ◌==◌, ℤ, pos}
 use Rattle.word.specs.declared.opcodes.Arith.{Arith}
 use Rattle.word.specs.declared.opcodes.Arith.TheVariants.{Add}
 use Rattle.word.specs.declared.opcodes.Form.{Form}

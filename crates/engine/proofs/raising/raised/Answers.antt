@@ -1,7 +1,5 @@
 use Rattle.std.proofs.Common.{◌≡◌, false, ap, sym, ◌∙◌}
-use Rattle.word.specs.declared.opcodes.Form.TheVariants.{Vector}
 use Rattle.flat.specs.Raising.{even_fields, rules_of, uneven, uneven_widths, even}
-use Rattle.flat.specs.declared.rules.Divisor.TheVariants.{Cast}
 use Rattle.flat.specs.declared.rules.Rules.{Rules}
 use Rattle.file.specs.Machine.{stands}
 use Rattle.engine.proofs.Raises.{even_divisor}
