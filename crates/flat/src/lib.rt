@@ -1,7 +1,7 @@
-// The flat machine: what the engine is proved to be. Its definitions stand in specs/, from `Registers` up
-// to `Calls`; they are what a reader must believe. The code here is only the words that they and the
-// engine share: modes, exceptions, what a step answers, what is recorded and shown. It uses the
-// refusals, words and their reading, arithmetic, lines, what stores mean, and how marks are counted.
+// The flat machine: what the engine is proved to be. Its definitions stand in specs/, from `Bus` up to
+// `Leaving`; they are what a reader must believe. Its laws stand in proofs/. The code here is only the words that
+// they and the crates above share: modes, exceptions, rows of rules, the bus, calls and answers, what is
+// refused, recorded and shown. It uses words, arithmetic, lines, what stores mean, and how marks are counted.
 #![tactic(auto)]
 
 mod answer;

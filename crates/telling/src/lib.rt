@@ -1,6 +1,6 @@
 // Telling: the text of a replay, which is what its calls answered, the records of its traces and the lines that
-// these sent back. It makes text and prints nothing. It uses `flat` for calls and answers, `word` and `refusal` for
-// what these have in them, and `text` for the text of modes and hexadecimal numbers.
+// these sent back. It makes text and prints nothing. It uses `flat` for calls, answers and refusals, `word` for the
+// types of registers, and `text` for the text of modes and hexadecimal numbers.
 #![tactic(auto)]
 
 mod answers;
