@@ -8,3 +8,4 @@ pub mod Taking
 pub mod Handing
 pub mod Leaving
 pub mod Carrying
+pub mod Registers

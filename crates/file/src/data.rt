@@ -1,5 +1,5 @@
 // The data registers: a bank of them, what each register is, and a mark on each tag whose line was written.
-ghost use Rattle.std.specs.Prelude.{◌≡◌, length};
+ghost use Rattle.std.specs.Prelude.{◌≡◌, ◌<◌, length, set};
 ghost use Rattle.store.specs.Meaning.{Meaning};
 ghost use Rattle.marks.specs.Marks.{marked};
 ghost use Rattle.tags.specs.Meaning.{names};
@@ -11,6 +11,17 @@ use marks::Marks;
 use store::Store;
 use tags::{Bank, Change, Register, Tag};
 use word::ElementType;
+
+// Puts a register at its place among 128, field by field: written whole, its padding would be written too.
+#[inline(always)]
+fn put(registers: &mut [DataRegister; 128], r: usize, to: DataRegister)
+    requires { r < 128 }
+    ensures { registers.new ≡ set registers.old r to }
+{
+    let DataRegister { address, kind } = to;
+    registers[r].address = address;
+    registers[r].kind = kind;
+}
 
 #[derive(Drop)]
 pub struct DataRegisters {
@@ -165,7 +176,7 @@ impl DataRegisters {
         self.bank.sound();
         self.bank.move_to(register, to.address, &Backing { store });
         let r = usize::from(register.number());
-        self.registers[r] = to;
+        put(&mut self.registers, r, to);
         Bus { sent }
     }
 
@@ -183,7 +194,7 @@ impl DataRegisters {
         self.bank.carry(register, to.address);
         self.bank.sound();
         let r = usize::from(register.number());
-        self.registers[r] = to;
+        put(&mut self.registers, r, to);
         let tag = self.bank.tag(register).number();
         self.marks.insert(tag);
         Bus { sent }

@@ -1,12 +1,14 @@
-use Rattle.std.proofs.Common.{◌<◌, ◌∙◌, ℕ, ap, length, sym, subst}
+use Rattle.std.proofs.Common.{List, ◌<◌, ◌∙◌, ℕ, ap, length, sym, subst}
 use Rattle.std.proofs.lemmas.List.{length-set}
 use Rattle.flat.specs.Data.{copied, move_to}
+use Rattle.flat.specs.declared.registers.DataRegister.{DataRegister}
 use Rattle.marks.specs.Marks.{marked}
 use Rattle.tags.specs.Meaning.{names}
 use Rattle.file.specs.Data.{sends, stands}
 use Rattle.file.proofs.Carrying.{carried_zero, carry_placed, carry_quiet, carry_stands}
 use Rattle.file.proofs.Leaving.{clean, same}
 use Rattle.file.proofs.Sending.{as_bus, blank_set, sends_zero}
+use Rattle.file.specs.Standing.{Placed, ZerosBlank, data_of, known}
 use Rattle.file.proofs.data.DataRegisters.carry.Goals as goal
 
 pub returns-then-is_zero-clause-data : goal.returns-then-is_zero-clause-data
@@ -29,8 +31,9 @@ returns-clause-data g c =
     let r = c.args.register.number in
     let a = c.args.to.address in
     let long : r < length new.registers = subst (λ (n : ℕ). r < n) (sym new.sized) c.args.register.inside in
-    carry_stands (names new.bank) (names c.carry.new.self) new.registers (marked old.marks) (marked new.marks) (marked c.insert.new.self) m (g.S.Store.meaning c.leave-sent.new.store) r c.args.to c.args.register.inside (sym c.if-is_zero.ensures) c.sound.ensures new.placed c.from-r.result (c.from-r.ensures ∙ c.number.ensures) long c.carry.ensures c.sound-2.ensures c.number-tag.result (c.number-tag.ensures ∙ c.tag.ensures.tag) new.quiet (clean old new m r a l.bank l.registers l.clean) c.insert.ensures (l.data ∙ ap (sends r a) q)
-    ∙ ap (λ d. move_to r c.args.to (copied r a d)) (sym q)
+    ap (λ (x : List DataRegister). data_of (names c.carry.new.self) (known x) (marked c.insert.new.self) (g.S.Store.meaning c.leave-sent.new.store)) c.put.ensures
+    ∙ (carry_stands (names new.bank) (names c.carry.new.self) new.registers (marked old.marks) (marked new.marks) (marked c.insert.new.self) m (g.S.Store.meaning c.leave-sent.new.store) r c.args.to c.args.register.inside (sym c.if-is_zero.ensures) c.sound.ensures new.placed c.from-r.result (c.from-r.ensures ∙ c.number.ensures) long c.carry.ensures c.sound-2.ensures c.number-tag.result (c.number-tag.ensures ∙ c.tag.ensures.tag) new.quiet (clean old new m r a l.bank l.registers l.clean) c.insert.ensures (l.data ∙ ap (sends r a) q)
+    ∙ ap (λ d. move_to r c.args.to (copied r a d)) (sym q))
 
 pub invariant_of-self : goal.invariant_of-self
 unfolding stands
@@ -47,7 +50,7 @@ invariant_of-self g c =
     let long : r < length new.registers = subst (λ (n : ℕ). r < n) (sym new.sized) c.args.register.inside in
     record {
       quiet = carry_quiet (names new.bank) (names c.carry.new.self) new.registers (marked old.marks) (marked new.marks) (marked c.insert.new.self) m store r c.args.to c.args.register.inside real c.sound.ensures new.placed c.from-r.result at long c.carry.ensures c.sound-2.ensures c.number-tag.result tag new.quiet (clean old new m r c.args.to.address l.bank l.registers l.clean) c.insert.ensures;
-      sized = length-set _ _ _ ∙ new.sized;
-      placed = carry_placed (names new.bank) (names c.carry.new.self) new.registers (marked old.marks) (marked new.marks) (marked c.insert.new.self) m store r c.args.to c.args.register.inside real c.sound.ensures new.placed c.from-r.result at long c.carry.ensures c.sound-2.ensures c.number-tag.result tag;
-      zeros_blank = blank_set new.registers r c.from-r.result c.args.to at real new.zeros_blank;
+      sized = ap (λ (x : List DataRegister). length x) c.put.ensures ∙ (length-set _ _ _ ∙ new.sized);
+      placed = subst (λ (x : List DataRegister). Placed (names c.carry.new.self) x) (sym c.put.ensures) (carry_placed (names new.bank) (names c.carry.new.self) new.registers (marked old.marks) (marked new.marks) (marked c.insert.new.self) m store r c.args.to c.args.register.inside real c.sound.ensures new.placed c.from-r.result at long c.carry.ensures c.sound-2.ensures c.number-tag.result tag);
+      zeros_blank = subst (λ (x : List DataRegister). ZerosBlank x) (sym c.put.ensures) (blank_set new.registers r c.from-r.result c.args.to at real new.zeros_blank);
     }

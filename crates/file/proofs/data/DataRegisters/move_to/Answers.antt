@@ -1,11 +1,13 @@
-use Rattle.std.proofs.Common.{◌<◌, ◌∙◌, ap, sym, subst, length}
+use Rattle.std.proofs.Common.{List, ◌<◌, ◌∙◌, ap, sym, subst, length}
 use Rattle.std.proofs.lemmas.List.{length-set}
 use Rattle.flat.specs.Data.{move_to}
+use Rattle.flat.specs.declared.registers.DataRegister.{DataRegister}
 use Rattle.marks.specs.Marks.{marked}
 use Rattle.tags.specs.Meaning.{names}
 use Rattle.file.specs.Data.{stands, sends}
 use Rattle.file.proofs.Leaving.{clean, same}
 use Rattle.file.proofs.Sending.{as_bus, blank_set, go_placed, go_quiet, go_stands, sends_zero, stays_zero}
+use Rattle.file.specs.Standing.{Placed, ZerosBlank, data_of, known}
 use Rattle.file.proofs.data.DataRegisters.move_to.Goals as goal
 
 pub returns-then-is_zero-clause-data : goal.returns-then-is_zero-clause-data
@@ -28,8 +30,9 @@ returns-clause-data g c =
     let r = c.args.register.number in
     let a = c.args.to.address in
     let long : r < length new.registers = subst (λ n. r < n) (sym new.sized) c.args.register.inside in
-    go_stands (names new.bank) new.registers (marked old.marks) (marked new.marks) m (g.S.Store.meaning c.leave-sent.new.store) r c.args.to c.args.register.inside (sym c.if-is_zero.ensures) c.sound.ensures new.placed c.from-r.result (c.from-r.ensures ∙ c.number.ensures) long (names c.move_to.new.self) c.move_to.ensures (l.data ∙ ap (sends r a) q) new.quiet (clean old new m r a l.bank l.registers l.clean)
-    ∙ ap (move_to r c.args.to) (sym q)
+    ap (λ (x : List DataRegister). data_of (names c.move_to.new.self) (known x) (marked new.marks) (g.S.Store.meaning c.leave-sent.new.store)) c.put.ensures
+    ∙ (go_stands (names new.bank) new.registers (marked old.marks) (marked new.marks) m (g.S.Store.meaning c.leave-sent.new.store) r c.args.to c.args.register.inside (sym c.if-is_zero.ensures) c.sound.ensures new.placed c.from-r.result (c.from-r.ensures ∙ c.number.ensures) long (names c.move_to.new.self) c.move_to.ensures (l.data ∙ ap (sends r a) q) new.quiet (clean old new m r a l.bank l.registers l.clean)
+    ∙ ap (move_to r c.args.to) (sym q))
 
 pub invariant_of-self : goal.invariant_of-self
 unfolding stands
@@ -46,7 +49,7 @@ invariant_of-self g c =
     let long : r < length new.registers = subst (λ n. r < n) (sym new.sized) c.args.register.inside in
     record {
       quiet = go_quiet (names new.bank) new.registers (marked old.marks) (marked new.marks) m store r c.args.to c.args.register.inside real c.sound.ensures new.placed c.from-r.result at long (names c.move_to.new.self) c.move_to.ensures new.quiet (clean old new m r a l.bank l.registers l.clean);
-      sized = length-set _ _ _ ∙ new.sized;
-      placed = go_placed (names new.bank) new.registers (marked old.marks) (marked new.marks) m store r c.args.to c.args.register.inside real c.sound.ensures new.placed c.from-r.result at long (names c.move_to.new.self) c.move_to.ensures;
-      zeros_blank = blank_set new.registers r c.from-r.result c.args.to at real new.zeros_blank;
+      sized = ap (λ (x : List DataRegister). length x) c.put.ensures ∙ (length-set _ _ _ ∙ new.sized);
+      placed = subst (λ (x : List DataRegister). Placed (names c.move_to.new.self) x) (sym c.put.ensures) (go_placed (names new.bank) new.registers (marked old.marks) (marked new.marks) m store r c.args.to c.args.register.inside real c.sound.ensures new.placed c.from-r.result at long (names c.move_to.new.self) c.move_to.ensures);
+      zeros_blank = subst (λ (x : List DataRegister). ZerosBlank x) (sym c.put.ensures) (blank_set new.registers r c.from-r.result c.args.to at real new.zeros_blank);
     }
