@@ -7,8 +7,6 @@
 #[cfg(test)]
 mod arithmetic;
 #[cfg(test)]
-mod calls;
-#[cfg(test)]
 mod control;
 #[cfg(test)]
 mod moving;
@@ -16,3 +14,5 @@ mod moving;
 mod raising;
 #[cfg(test)]
 mod rig;
+#[cfg(test)]
+mod runs;
