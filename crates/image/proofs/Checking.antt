@@ -7,10 +7,10 @@ use Rattle.image.specs.declared.fault.Cause.TheVariants.{Line}
 use Rattle.image.specs.declared.fault.Fault.{Fault}
 use Rattle.image.specs.declared.place.Place.{Place}
 use Rattle.image.specs.Records.{Gives}
-use Rattle.image.specs.Format.{Placed, Image, front, places, ends, taken}
+use Rattle.image.specs.Format.{Placed, Image, front, places, taken}
 use Rattle.image.specs.Placing.{FitsIn, Misfits}
 use Rattle.image.specs.Loading.{AllFit, FirstMisfit, this, next, Good, PlaceChecks, Faulty}
-use Rattle.image.proofs.Walks.{image_at_place, image_at_end, not_ill_formed}
+use Rattle.image.proofs.Walks.{image_at_place, image_at_end, not_end_and_place, not_ill_formed}
 
 -- Of the places of the image, those from `at` on are left. If they fit, all do, and the first at fault among them is so among all.
 pub record Unchecked (m : Meaning) (image : List ℕ) (at : ℕ) : Type 0 where
@@ -21,12 +21,18 @@ pub record Unchecked (m : Meaning) (image : List ℕ) (at : ℕ) : Type 0 where
   pub fit : AllFit m left → AllFit m all
   pub misfit : (x n : ℕ) → FirstMisfit m left x n → FirstMisfit m all x n
 
+-- Before the first record, all places of an image with whole records are left.
+pub unchecked_all : (m : Meaning) (image : List ℕ) (ps : List Placed) → Image 0 image ps → Unchecked m image 0
+unchecked_all m image ps w =
+    record { all = ps; left = ps; whole = w; rest = w; fit = λ h. h; misfit = λ x n h. h }
+
 module _ (m : Meaning) (image : List ℕ) (at : ℕ) (u : Unchecked m image at) where
   module _ (a : ℕ) (b : List ℕ) (f : front (drop at image) ≡ places a b) where
     here : Placed
     here = record { at = at; address = a; bytes = b }
 
-    unchecked_more : FitsIn m a b → Unchecked m image (at + taken b)
+    -- Behind a place that fits, the places after it are left.
+    pub unchecked_more : FitsIn m a b → Unchecked m image (at + taken b)
     unchecked_more h =
         let step = image_at_place at (drop at image) a b u.left f u.rest in
         record {
@@ -38,14 +44,16 @@ module _ (m : Meaning) (image : List ℕ) (at : ℕ) (u : Unchecked m image at) 
           misfit = λ x n k. u.misfit x n (subst (λ l. FirstMisfit m l x n) (sym step.1) (next h k));
         }
 
-    misfit_here : (n : ℕ) → Misfits m a b n → (ps : List Placed) × Image 0 image ps × FirstMisfit m ps at n
+    -- A place that does not fit is the first of the image that does not.
+    pub misfit_here : (n : ℕ) → Misfits m a b n → (ps : List Placed) × Image 0 image ps × FirstMisfit m ps at n
     misfit_here n h =
         let step = image_at_place at (drop at image) a b u.left f u.rest in
         (u.all, u.whole, u.misfit at n (subst (λ l. FirstMisfit m l at n) (sym step.1) (this h)))
 
-  checked_all : front (drop at image) ≡ ends → (ps : List Placed) × Good m image ps
-  checked_all f =
-      let e = image_at_end at (drop at image) u.left f u.rest in
+  -- Where no further place stands, every place fits.
+  pub checked_all : ((a : ℕ) (b : List ℕ) → front (drop at image) ≡ places a b → ⊥) → (ps : List Placed) × Good m image ps
+  checked_all none =
+      let e = image_at_end at (drop at image) u.left none u.rest in
       (u.all, (u.whole, u.fit (subst (AllFit m) (sym e) tt)))
 
 -- The same where an iterator over the records stands.
@@ -70,7 +78,7 @@ module _ (m : Meaning) (image : List ℕ) where
   unchecked_misfit None p n e u h k = absurd u
 
   pub unchecked_none : (o n : Option ℕ) → UncheckedFrom m image o → Gives image o None n → (ps : List Placed) × Good m image ps
-  unchecked_none (Some at) n u h = checked_all m image at u h.0
+  unchecked_none (Some at) n u h = checked_all m image at u (λ a b f. not_end_and_place (drop at image) a b h.0 f)
   unchecked_none None n u h = absurd u
 
 -- What the loop of check_places steps by.

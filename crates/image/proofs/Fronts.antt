@@ -1,17 +1,51 @@
--- The record at the front of some bytes lies within them.
+-- Which record stands at the front of some bytes, and that it lies within them.
 use Rattle.std.proofs.Common.{◌≡◌, ℕ, ◌+◌, ◌<◌, ◌≤◌, ◌≢◌, List, length, drop, Some, None, Err, Option, arith, length-drop, length-take}
 use Rattle.std.proofs.lemmas.List.{take_rest}
 use Rattle.image.specs.declared.fault.ImageRefusal.{ImageRefusal}
-use Rattle.image.specs.declared.fault.ImageRefusal.TheVariants.{Cut}
+use Rattle.image.specs.declared.fault.ImageRefusal.TheVariants.{Cut, Kind}
 use Rattle.image.specs.declared.fault.Cause.TheVariants.{Form}
 use Rattle.image.specs.Records.{Gives}
 use Rattle.std.proofs.lemmas.Bool.Decides.{nat_tests}
-use Rattle.image.specs.Format.{places, ends, bad, front, taken, here, behind}
+use Rattle.image.specs.Format.{places, ends, bad, front, front_place, front_end, body_length, kind, taken, here, behind}
 
+module _ (bs : List ℕ) where
+  -- A record without a whole header is cut.
+  pub front_cut : length bs < 6 → front bs ≡ bad Cut
+  unfolding front
+  front_cut h = grind (arith, nat_tests)
+
+  module _ (h : 6 ≤ length bs) where
+    -- A record of kind 1 is read as a place.
+    pub front_is_place : kind bs ≡ 1 → front bs ≡ front_place bs
+    unfolding front
+    front_is_place k = grind (arith, nat_tests)
+
+    -- A record of kind 2 is read as an end.
+    pub front_is_end : kind bs ≡ 2 → front bs ≡ front_end bs
+    unfolding front
+    front_is_end k = grind (arith, nat_tests)
+
+    -- A record of another kind is at fault.
+    pub front_unknown : kind bs ≢ 1 → kind bs ≢ 2 → front bs ≡ bad Kind
+    unfolding front
+    front_unknown n m = grind (arith, nat_tests)
+
+    -- An end with no body ends the image.
+    pub front_ends : kind bs ≡ 2 → body_length bs ≡ 0 → front bs ≡ ends
+    unfolding front
+    front_ends k z = grind (arith, nat_tests)
+
+    -- An end with a body is at fault.
+    pub front_full_end : kind bs ≡ 2 → body_length bs ≢ 0 → front bs ≡ bad Kind
+    unfolding front
+    front_full_end k z = grind (arith, nat_tests)
+
+-- A record that places bytes lies within the bytes that it stands in.
 pub places_within : (bs : List ℕ) (a : ℕ) (b : List ℕ) → front bs ≡ places a b → taken b ≤ length bs
 unfolding front
 places_within bs a b e = grind (arith, nat_tests, length-take {A = ℕ}, length-drop {A = ℕ})
 
+-- An end lies within the bytes that it stands in.
 pub ends_within : (bs : List ℕ) → front bs ≡ ends → 6 ≤ length bs
 unfolding front
 ends_within bs e = grind (arith, nat_tests)

@@ -10,11 +10,11 @@ use Rattle.image.specs.declared.fault.Fault.{Fault}
 use Rattle.image.specs.Format.{bad, taken, Placed, Image, ended, placed, Malformed, here, behind, later}
 use Rattle.image.specs.Placing.{line_at, FitsIn, Misfits}
 use Rattle.image.specs.Loading.{AllFit, FirstMisfit, this, next, put_all, Faulty, Loads}
-use Rattle.image.proofs.Walks.{image_at_place, image_at_end, image_sound}
+use Rattle.image.proofs.Walks.{image_at_place, image_at_end, not_end_and_place, image_sound}
 
 -- The places of an image are determined.
 image_one : {at : ℕ} {bs : List ℕ} {ps : List Placed} (qs : List Placed) → Image at bs ps → Image at bs qs → ps ≡ qs
-image_one {at} {bs} qs (ended e l) v = sym (image_at_end at bs qs e v)
+image_one {at} {bs} qs (ended e l) v = sym (image_at_end at bs qs (λ a b f. not_end_and_place bs a b e f) v)
 image_one {at} {bs} qs (placed {a = a} {b = b} e w) v =
     let step = image_at_place at bs a b qs e v in
     ap (λ l. record { at = at; address = a; bytes = b } ∷ l) (image_one step.0 w step.2) ∙ sym step.1

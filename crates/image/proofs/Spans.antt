@@ -1,10 +1,18 @@
 -- The lines on which bytes fall.
-use Rattle.std.proofs.Common.{◌≡◌, ℕ, ◌-◌, ◌*◌, ◌/◌, ◌<◌, ◌≤◌, true, false, List, length, subst, arith}
+use Rattle.std.proofs.Common.{◌≡◌, ℕ, ◌-◌, ◌*◌, ◌/◌, ◌+◌, ◌<◌, ◌≤◌, ◌≢◌, true, false, List, length, subst, arith}
 use Rattle.std.proofs.lemmas.Bool.Decides.{nat_tests}
 use Rattle.store.specs.Meaning.{Meaning}
 use Rattle.image.specs.Placing.{line_at, past_line, FitsIn, Misfits}
 
 module _ (a : ℕ) (b : List ℕ) where
+  -- Where there is no byte, the past line is the first line.
+  pub past_none : length b ≡ 0 → past_line a b ≡ a / 128
+  past_none e = grind (arith, nat_tests)
+
+  -- Where there are bytes, it is the line behind that of the last one.
+  pub past_some : length b ≢ 0 → past_line a b ≡ (a + length b + 127) / 128
+  past_some e = grind (arith, nat_tests)
+
   -- Each byte falls on a line below the past line.
   pub below_past : (i : ℕ) → i < length b → line_at a i < past_line a b
   below_past i h = grind (arith, nat_tests)

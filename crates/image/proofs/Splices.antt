@@ -16,6 +16,18 @@ get_or-spliced x (o ∷ old) a b (suc i) d h =
     let e : suc x + i ≡ x + suc i = omega arith in
     get_or-spliced (suc x) old a b i d (le_of_suc-le-suc h) ∙ ap (λ n. byte_at n a b (get_or old i d)) e
 
+-- A byte before the placed bytes is as it was.
+pub byte_before : (x a : ℕ) (b : List ℕ) (old : ℕ) → x < a → byte_at x a b old ≡ old
+byte_before x a b old h = grind (arith, nat_tests)
+
+-- So is a byte behind them.
+pub byte_behind : (x a : ℕ) (b : List ℕ) (old : ℕ) → a + length b ≤ x → byte_at x a b old ≡ old
+byte_behind x a b old h = grind (arith, nat_tests)
+
+-- A byte among them is the placed one.
+pub byte_within : (x a : ℕ) (b : List ℕ) (old : ℕ) → a ≤ x → x < a + length b → byte_at x a b old ≡ get_or b (x - a) 0
+byte_within x a b old h k = grind (arith, nat_tests)
+
 -- Bytes that fall wholly before or behind a row leave it as it was.
 pub spliced_none : (x : ℕ) (old : List ℕ) (a : ℕ) (b : List ℕ) → ((i : ℕ) → i < length old → byte_at (x + i) a b (get_or old i 0) ≡ get_or old i 0) → spliced x old a b ≡ old
 spliced_none x old a b same =

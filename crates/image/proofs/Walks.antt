@@ -1,5 +1,5 @@
 -- Going from record to record.
-use Rattle.std.proofs.Common.{◌≡◌, ℕ, ◌+◌, List, [], ◌∷◌, drop, Some, None, Ok, Err, Option, sym, refl, subst, arith}
+use Rattle.std.proofs.Common.{◌≡◌, ℕ, ◌+◌, List, [], ◌∷◌, drop, Some, None, Ok, Err, Option, sym, refl, ap, ◌∙◌, subst, arith}
 use Rattle.std.proofs.lemmas.List.{drop-drop}
 use Rattle.image.specs.declared.fault.Cause.{Cause}
 use Rattle.image.specs.declared.fault.Cause.TheVariants.{Form, Line}
@@ -9,6 +9,18 @@ use Rattle.image.specs.Records.{Gives, IllFormed}
 use Rattle.image.specs.declared.fault.ImageRefusal.{ImageRefusal}
 use Rattle.image.specs.Format.{places, ends, front, taken, Placed, Image, Malformed, here, behind, later, ended, placed}
 
+module _ (image : List ℕ) (at next a : ℕ) (b : List ℕ) (f : front (drop at image) ≡ places a b) (e : next ≡ at + taken b) where
+  on : drop next image ≡ drop (taken b) (drop at image)
+  on = ap (λ n. drop n image) e ∙ sym (drop-drop (taken b) at image)
+
+  -- What is at fault behind a place is at fault from the place on.
+  pub malformed_before : (x : ℕ) (r : ImageRefusal) → Malformed next (drop next image) x r → Malformed at (drop at image) x r
+  malformed_before x r w = later f (subst (λ l. Malformed (at + taken b) l x r) on (subst (λ n. Malformed n (drop next image) x r) e w))
+
+  -- Whole records behind a place are whole with the place.
+  pub image_before : (ps : List Placed) → Image next (drop next image) ps → Image at (drop at image) (record { at = at; address = a; bytes = b } ∷ ps)
+  image_before ps w = placed f (subst (λ l. Image (at + taken b) l ps) on (subst (λ n. Image n (drop next image) ps) e w))
+
 -- What is true of the records from `at` on is true of the whole image.
 pub record Walked (image : List ℕ) (at : ℕ) : Type 0 where
   pub malformed : (x : ℕ) (r : ImageRefusal) → Malformed at (drop at image) x r → Malformed 0 image x r
@@ -16,10 +28,9 @@ pub record Walked (image : List ℕ) (at : ℕ) : Type 0 where
 
 pub walked_more : (image : List ℕ) (at a : ℕ) (b : List ℕ) → front (drop at image) ≡ places a b → Walked image at → Walked image (at + taken b)
 walked_more image at a b f w =
-    let on = drop-drop (taken b) at image in
     record {
-      malformed = λ x r v. w.malformed x r (later f (subst (λ l. Malformed (at + taken b) l x r) (sym on) v));
-      whole = λ ps v. w.whole (record { at = at; address = a; bytes = b } ∷ ps) (placed f (subst (λ l. Image (at + taken b) l ps) (sym on) v));
+      malformed = λ x r v. w.malformed x r (malformed_before image at (at + taken b) a b f refl x r v);
+      whole = λ ps v. w.whole (record { at = at; address = a; bytes = b } ∷ ps) (image_before image at (at + taken b) a b f refl ps v);
     }
 
 ill_formed_before : (image : List ℕ) (at : ℕ) → Walked image at → (x : ℕ) (c : Cause) → IllFormed at (drop at image) x c → IllFormed 0 image x c
@@ -51,10 +62,14 @@ image_at_place at bs a b _ f (ended e l) = absurd cc
 image_at_place at bs a b _ f (placed {a = a'} {b = b'} {ps = ps} e w) =
     let q : b' ≡ b = cc in let p : a' ≡ a = cc in (ps, cc, subst (λ y. Image (at + taken y) (drop (taken y) bs) ps) q w)
 
--- Whole records that begin with the end have no place.
-pub image_at_end : (at : ℕ) (bs : List ℕ) (qs : List Placed) → front bs ≡ ends → Image at bs qs → qs ≡ []
-image_at_end at bs _ e (ended f l) = refl
-image_at_end at bs _ e (placed f w) = cc
+-- Whole records that begin with no place have none.
+pub image_at_end : (at : ℕ) (bs : List ℕ) (qs : List Placed) → ((a : ℕ) (b : List ℕ) → front bs ≡ places a b → ⊥) → Image at bs qs → qs ≡ []
+image_at_end at bs _ none (ended e l) = refl
+image_at_end at bs _ none (placed {a = a} {b = b} e w) = absurd (none a b e)
+
+-- The end and a place do not stand at one front.
+pub not_end_and_place : (bs : List ℕ) (a : ℕ) (b : List ℕ) → front bs ≡ ends → front bs ≡ places a b → ⊥
+not_end_and_place bs a b e f = cc
 
 -- Whole records have none at fault.
 pub image_sound : {at : ℕ} {bs : List ℕ} {ps : List Placed} {x : ℕ} {r : ImageRefusal} → Image at bs ps → Malformed at bs x r → ⊥

@@ -1,15 +1,15 @@
 -- Writing the places of an image one after the other.
-use Rattle.std.proofs.Common.{◌≡◌, ℕ, ◌+◌, List, [], ◌∷◌, drop, Some, None, Ok, Err, Option, Result, rules, sym, ap, ◌∙◌, subst}
+use Rattle.std.proofs.Common.{◌≡◌, ℕ, ◌+◌, List, [], ◌∷◌, drop, Some, None, Ok, Err, Option, Result, rules, sym, refl, ap, ◌∙◌, subst}
 use Rattle.std.proofs.lemmas.List.{drop-drop}
 use Rattle.store.specs.Meaning.{Meaning}
 use Rattle.std.specs.Result.{IsOk}
 use Rattle.image.specs.declared.fault.Fault.{Fault}
 use Rattle.image.specs.declared.place.Place.{Place}
 use Rattle.image.specs.Records.{Gives}
-use Rattle.image.specs.Format.{Placed, Image, front, places, ends, taken}
+use Rattle.image.specs.Format.{Placed, Image, front, places, taken}
 use Rattle.image.specs.Placing.{FitsIn, put}
 use Rattle.image.specs.Loading.{AllFit, Good, put_all}
-use Rattle.image.proofs.Walks.{image_at_place, image_at_end, not_ill_formed}
+use Rattle.image.proofs.Walks.{image_at_place, image_at_end, not_end_and_place, not_ill_formed}
 
 -- Of the places of a good image, those from `at` on are left, and writing them into what the store now is comes to writing all into what it was.
 pub record Unwritten (was : Meaning) (image : List ℕ) (at : ℕ) (is : Meaning) : Type 0 where
@@ -19,6 +19,10 @@ pub record Unwritten (was : Meaning) (image : List ℕ) (at : ℕ) (is : Meaning
   pub rest : Image at (drop at image) left
   pub fit : AllFit is left
   pub same : put_all is left ≡ put_all was all
+
+-- Before the first record, all places of a good image are left.
+pub unwritten_all : (m : Meaning) (image : List ℕ) (ps : List Placed) → Good m image ps → Unwritten m image 0 m
+unwritten_all m image ps w = record { all = ps; left = ps; good = w; rest = w.0; fit = w.1; same = refl }
 
 -- Writing bytes does not change which lines can be written.
 fit_put : (m : Meaning) (a : ℕ) (b : List ℕ) (ps : List Placed) → AllFit m ps → AllFit (put m a b) ps
@@ -34,10 +38,12 @@ module _ (was : Meaning) (image : List ℕ) (at : ℕ) (is : Meaning) (u : Unwri
     fits : FitsIn is a b × AllFit is step.0
     fits = subst (AllFit is) step.1 u.fit
 
-    fits_here : FitsIn is a b
+    -- The next place fits what the store now is.
+    pub fits_here : FitsIn is a b
     fits_here = fits.0
 
-    unwritten_more : (next : Meaning) → next ≡ put is a b → Unwritten was image (at + taken b) next
+    -- Once it is written, the places after it are left.
+    pub unwritten_more : (next : Meaning) → next ≡ put is a b → Unwritten was image (at + taken b) next
     unwritten_more next e =
         record {
           all = u.all;
@@ -48,9 +54,11 @@ module _ (was : Meaning) (image : List ℕ) (at : ℕ) (is : Meaning) (u : Unwri
           same = ap (λ m. put_all m step.0) e ∙ sym (ap (put_all is) step.1) ∙ u.same;
         }
 
-  written_all : front (drop at image) ≡ ends → (ps : List Placed) × Good was image ps × (is ≡ put_all was ps)
-  written_all f =
-      let e = image_at_end at (drop at image) u.left f u.rest in
+  -- Where no further place stands, all places are written.
+  pub written_all :
+      ((a : ℕ) (b : List ℕ) → front (drop at image) ≡ places a b → ⊥) → (ps : List Placed) × Good was image ps × (is ≡ put_all was ps)
+  written_all none =
+      let e = image_at_end at (drop at image) u.left none u.rest in
       (u.all, u.good, sym (ap (put_all is) e) ∙ u.same)
 
 -- The same where an iterator over the records stands.
@@ -74,7 +82,7 @@ module _ (was : Meaning) (image : List ℕ) (is : Meaning) where
   unwritten_step None p n next u h e = absurd u
 
   pub unwritten_none : (o n : Option ℕ) → UnwrittenFrom was image o is → Gives image o None n → (ps : List Placed) × Good was image ps × (is ≡ put_all was ps)
-  unwritten_none (Some at) n u h = written_all was image at is u h.0
+  unwritten_none (Some at) n u h = written_all was image at is u (λ a b f. not_end_and_place (drop at image) a b h.0 f)
   unwritten_none None n u h = absurd u
 
 -- What the loop of put_places steps by.
