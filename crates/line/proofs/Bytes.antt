@@ -1,12 +1,17 @@
 -- Bytes and the numbers that they make, in a line of any length.
-use Rattle.std.proofs.Common.{◌≡◌, ℕ, zero, suc, ◌+◌, ◌-◌, ◌*◌, ◌/◌, ◌%◌, ◌^◌, ◌<◌, ◌≤◌, List, [], ◌∷◌, ◌++◌, length, take, drop, get_or, replicate, sym, refl, ap, ap₂, ◌∙◌, add-one, zero-mul, arith}
+use Rattle.std.proofs.Common.{◌≡◌, ℕ, zero, suc, ◌+◌, ◌-◌, ◌*◌, ◌/◌, ◌%◌, ◌^◌, ◌<◌, ◌≤◌, ◌⊎◌, List, [], ◌∷◌, ◌++◌, length, take, drop, get_or, set, replicate, sym, refl, ap, ap₂, ◌∙◌, ⊎_elim, add-one, zero-mul, arith}
 use borrow.Rule.Slice.PartMut.{put_mid}
+use lib.Pow.{field, mod-mod-pow}
 use Rattle.word.specs.Types.{width}
 use Rattle.word.specs.declared.element.ElementType.{ElementType}
 use Rattle.word.specs.declared.element.ElementType.TheVariants.{U8, S8, U16, S16, U32, S32, U64, S64}
 use Rattle.line.specs.Elements.{number, bytes, splice}
 use Rattle.std.proofs.lemmas.Grind.{elements}
-use Rattle.std.proofs.lemmas.List.{append_assoc, length-append, length-take-le, length-drop, length_push, take_at, drop-drop}
+use Rattle.std.proofs.lemmas.List.{append_assoc, length-append, length-take-le, length-drop, length_push, take_at, drop-drop, set_split}
+
+-- the width of a type that is one of two
+pub width_is : (t s u v : ElementType) (w : ℕ) → t ≡ s → (t ≡ u) ⊎ (t ≡ v) → width u ≡ w → width v ≡ w → width s ≡ w
+width_is t s u v w is one first second = ap width (sym is) ∙ ⊎_elim (λ e. ap width e ∙ first) (λ e. ap width e ∙ second) one
 
 pub length-bytes : (w m : ℕ) → length (bytes w m) ≡ w
 unfolding bytes
@@ -25,6 +30,20 @@ front_bytes U32 v = refl
 front_bytes S32 v = refl
 front_bytes U64 v = refl
 front_bytes S64 v = refl
+
+-- a byte of a number that was cut above it
+kept : (v j k : ℕ) → v % 2 ^ (j + 8 + k) / 2 ^ k % 2 ^ 8 ≡ v / 2 ^ k % 2 ^ 8
+kept v j k = ap (λ x. x % 2 ^ 8) (field v (j + 8) k) ∙ mod-mod-pow (v / 2 ^ k) j 8
+
+-- the lowest two bytes of a number that was cut to them
+pub lowest_two : (v : ℕ) → (v % 65536 % 256) ∷ (v % 65536 / 256 % 256) ∷ [] ≡ bytes 2 v
+unfolding bytes
+lowest_two v = λ i. mod-mod-pow v 8 8 i ∷ kept v 0 8 i ∷ []
+
+-- the lowest four bytes of a number that was cut to them
+pub lowest_four : (v : ℕ) → (v % 4294967296 % 256) ∷ (v % 4294967296 / 256 % 256) ∷ (v % 4294967296 / 65536 % 256) ∷ (v % 4294967296 / 16777216 % 256) ∷ [] ≡ bytes 4 v
+unfolding bytes
+lowest_four v = λ i. mod-mod-pow v 24 8 i ∷ kept v 16 8 i ∷ kept v 8 16 i ∷ kept v 0 24 i ∷ []
 
 -- a number by its bytes
 number-suc : (n : ℕ) (xs : List ℕ) (p : ℕ) → number (suc n) xs p ≡ number n xs p + get_or xs (p + n) 0 * 256 ^ n
@@ -72,6 +91,11 @@ number_loaded w p line small inside =
 pub spliced : (line : List ℕ) (p k : ℕ) (bs cs : List ℕ) → cs ≡ bs → k ≡ length bs → put_mid p k line cs ≡ splice line p bs
 unfolding splice
 spliced line p k bs cs e h = ap (λ x. put_mid p k line x) e ∙ ap (λ i. take p line ++ (bs ++ drop i (drop p line))) h ∙ ap (λ x. take p line ++ (bs ++ x)) (drop-drop (length bs) p line)
+
+-- a write of one byte is a splice
+pub spliced_one : (line : List ℕ) (p b : ℕ) → p < length line → set line p b ≡ splice line p (b ∷ [])
+unfolding splice
+spliced_one line p b h = set_split line p b h ∙ ap (λ i. take p line ++ (b ∷ drop i line)) (sym (add-one p))
 
 module _ (line : List ℕ) (p : ℕ) (bs : List ℕ) (h : p + length bs ≤ length line) where
   pub length-splice : length (splice line p bs) ≡ length line

@@ -38,11 +38,19 @@ fn join<O: Operation>(to: ElementType, from: ElementType, first: u64, line: &[u8
     by_kind!(to, join_to::<O>; from, first, line)
 }
 
+// The lane of the first element of a line, of a type that is known when built.
+#[inline(always)]
+fn first_as(from: ElementType, to: ElementType, line: &[u8; 128]) -> u64
+    ensures { cast to (pos result) ≡ cast to (elementOf from line.now 0) }
+{
+    convert(from, to, lane_at(from, line, 0))
+}
+
 // The lane of the first element of a line.
 fn first_lane(to: ElementType, from: ElementType, line: &[u8; 128]) -> u64
     ensures { cast to (pos result) ≡ cast to (elementOf from line.now 0) }
 {
-    convert(from, to, lane_at(from, line, 0))
+    by_kind!(from, first_as; to, line)
 }
 
 // What a reduction makes of the elements of a line of type `from`, each cast to the type `to`. (It is

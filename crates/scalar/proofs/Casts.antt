@@ -94,6 +94,10 @@ residue_fewer n m z h =
     let others : l * 2 ^ k * 2 ^ n ≡ l * 2 ^ m = mul_assoc l (2 ^ k) (2 ^ n) ∙ ap (λ i. l * i) whole in
     residue_same n (pos (residue m z)) z (j * 2 ^ k) (l * 2 ^ k) (ap (λ i. pos (residue m z) +ℤ pos i) ones ∙ d.2 ∙ ap (λ i. z +ℤ pos i) (sym others))
 
+-- the residue of more bits is cast as the number is
+pub cast_fewer : (t : ElementType) (m : ℕ) (z : ℤ) → bits t ≤ m → cast t (pos (residue m z)) ≡ cast t z
+cast_fewer t m z h = cast_same t (pos (residue m z)) z (residue_fewer (bits t) m z h)
+
 -- what a type keeps of a number that is passed on in 128 bits
 pub residue_wide : (t : ElementType) (z : ℤ) → SFits w128 z → residue (bits t) z ≡ residue 64 (to_z w128 (of_z w128 z)) % 2 ^ bits t
 residue_wide t z f = sym (residue_fewer (bits t) 64 z (bits_high t)) ∙ residue-pos (bits t) (residue 64 z) ∙ ap (λ y. residue 64 y % 2 ^ bits t) (sym (to_z-of_z w128 z f))
@@ -105,7 +109,7 @@ pub ruleset from_wide = (residue_wide, cast_from_residue)
 
 -- the lowest 64 bits of a number are cast as the number is
 cast_lowest : (t : ElementType) (z : ℤ) → cast t (pos (residue 64 z)) ≡ cast t z
-cast_lowest t z = cast_same t (pos (residue 64 z)) z (residue_fewer (bits t) 64 z (bits_high t))
+cast_lowest t z = cast_fewer t 64 z (bits_high t)
 
 -- a lane that is made of the lowest bits of two numbers
 pub made_of_lowest : (t : ElementType) (make : ℕ → ℤ → ℤ → ℤ) (x y : ℤ) (a b m : ℕ) → SFits w128 x → SFits w128 y → a ≡ residue 64 (to_z w128 (of_z w128 x)) → b ≡ residue 64 (to_z w128 (of_z w128 y)) → m ≡ residue (bits t) (make (bits t) (cast t (pos a)) (cast t (pos b))) → cast t (pos m) ≡ cast t (make (bits t) (cast t x) (cast t y))
