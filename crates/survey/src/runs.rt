@@ -96,7 +96,15 @@ impl<'a, S: Store> Runs<'a, S> {
         ensures store { result.store.now ≡ store.now }
         ensures from { result.from ≡ 0 }
     {
-        Runs { store, from: 0 }
+        Runs::starting_at(store, 0)
+    }
+
+    // The runs of the store from line `from` on.
+    pub(crate) fn starting_at(store: &'a S, from: u32) -> Self
+        ensures store { result.store.now ≡ store.now }
+        ensures from { result.from ≡ from }
+    {
+        Runs { store, from }
     }
 }
 
