@@ -1,5 +1,5 @@
 -- Runs of equal lines.
-use Rattle.std.specs.Prelude.{◌≡◌, ℕ, ◌<◌, ◌≤◌, Some, None, Option}
+use Rattle.std.specs.Prelude.{◌≡◌, ℕ, ◌<◌, ◌≤◌, List, Some, None, Option}
 use Rattle.store.specs.Meaning.{Meaning}
 use Rattle.survey.specs.declared.runs.Line.{Line}
 use Rattle.survey.specs.declared.runs.Run.{Run}
@@ -13,6 +13,10 @@ line_of m n = record { bytes = m.line n; writable = m.canwrite n }
 abbrev pub LineAt : Meaning → ℕ → Option Line → Type 0
 LineAt m n (Some line) = (n < m.size) × (line ≡ line_of m n)
 LineAt m n None = m.size ≤ n
+
+-- A store has line n, and it shows this line.
+abbrev pub HasLine : Meaning → ℕ → Line → Type 0
+HasLine m n line = (n < m.size) × (line_of m n ≡ line)
 
 -- r is the first line, from line n on, that does not show this line. There is none where all lines from line n on show it.
 abbrev pub FirstUnlike : Meaning → ℕ → Line → Option ℕ → Type 0
@@ -37,10 +41,15 @@ pub record IsRun (m : Meaning) (run : Run) : Type 0 where
   pub lines : RunAfter m run.first run.after
   pub line_is : run.line ≡ line_of m run.first
 
--- The run that begins at line n, where the store has the line and it is not blank.
-abbrev pub RunAt : Meaning → ℕ → Option Run → Type 0
-RunAt m n (Some run) = IsRun m run × (run.first ≡ n) × (Blank run.line.bytes → ⊥)
-RunAt m n None = n < m.size → Blank (m.line n)
+-- The bytes of line n, where the store has it and it is not blank.
+abbrev pub Holds : Meaning → ℕ → Option (List ℕ) → Type 0
+Holds m n (Some bytes) = (n < m.size) × (bytes ≡ m.line n) × (Blank (m.line n) → ⊥)
+Holds m n None = n < m.size → Blank (m.line n)
+
+-- The first line, from line n on, that is not blank, and its bytes. There is none where all lines from line n on are blank.
+abbrev pub FirstHeld : Meaning → ℕ → Option (ℕ × List ℕ) → Type 0
+FirstHeld m n (Some found) = (n ≤ found.0) × Holds m found.0 (Some found.1) × BlankBetween m n found.0
+FirstHeld m n None = BlankBetween m n m.size
 
 -- The first run, from line n on, of lines that are not blank. There is none where all lines from line n on are blank.
 abbrev pub NextRun : Meaning → ℕ → Option Run → Type 0

@@ -28,7 +28,7 @@ pub fn undefined_words<S: Store>(store: &S) -> u32
 {
     let mut total = 0;
     // not by `sum`, which asks for a bound on the sum beforehand
-    for run in Runs::new(store) {
+    for run in Runs::starting_at(store, 0) {
         total += undefined_among(&words(&run.line.bytes));
     }
     total

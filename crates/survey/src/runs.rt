@@ -1,7 +1,7 @@
 // Runs of equal lines: the same bytes and the same writability, one line after another.
-ghost use Rattle.survey.specs.Runs.{FirstUnlike, GivesRun, LineAt, NextRun, RunAfter, RunAt, line_of};
+ghost use Rattle.survey.specs.Runs.{FirstHeld, FirstUnlike, GivesRun, HasLine, Holds, LineAt, NextRun, RunAfter, line_of};
 ghost use Rattle.std.specs.Iterator.{at_most};
-ghost use Rattle.std.specs.Prelude.{◌≡◌, ◌-◌, ◌<◌};
+ghost use Rattle.std.specs.Prelude.{◌≡◌, ◌-◌, ◌<◌, ◌↔◌, IsTrue};
 
 use crate::blank::is_blank;
 use store::Store;
@@ -34,17 +34,30 @@ fn line_at<S: Store>(store: &S, number: u32) -> Option<Line>
     })
 }
 
-// The first line, from line `from` on, that does not show `line`.
-fn first_unlike<S: Store>(store: &S, from: u32, line: Line) -> Option<u32>
-    ensures { FirstUnlike (S.meaning store.now) from line result }
+// Whether the store has the line of a number, and it shows `line`. The bytes are compared first, so that
+// only a line with the same bytes is asked whether it can be written.
+fn has_line<S: Store>(store: &S, number: u32, line: &Line) -> bool
+    ensures { IsTrue result ↔ HasLine (S.meaning store.now) number line.now }
 {
-    (from..store.size()).find(|number| line_at(store, *number) != Some(line))
+    // a line record for `read` to fill
+    let mut bytes = [0; 128];
+    match store.read(number, &mut bytes) {
+        Ok(()) => bytes == line.bytes && store.writable(number) == line.writable,
+        Err(_) => false,
+    }
+}
+
+// The first line, from line `from` on, that does not show `line`.
+fn first_unlike<S: Store>(store: &S, from: u32, line: &Line) -> Option<u32>
+    ensures { FirstUnlike (S.meaning store.now) from line.now result }
+{
+    (from..store.size()).find(|number| !has_line(store, *number, line))
 }
 
 // The line behind the unbroken run of lines that begins at `first`, where the store shows `line`.
-fn end_of_run<S: Store>(store: &S, first: u32, line: Line) -> u32
+fn end_of_run<S: Store>(store: &S, first: u32, line: &Line) -> u32
     requires there { first < (S.meaning store.now).size }
-    requires shown { line ≡ line_of (S.meaning store.now) first }
+    requires shown { line.now ≡ line_of (S.meaning store.now) first }
     ensures { RunAfter (S.meaning store.now) first result }
 {
     first_unlike(store, first + 1, line).unwrap_or(store.size())
@@ -56,31 +69,45 @@ pub fn run_after<S: Store>(store: &S, first: u32) -> u32
     ensures { RunAfter (S.meaning store.now) first result }
 {
     match line_at(store, first) {
-        Some(line) => end_of_run(store, first, line),
+        Some(line) => end_of_run(store, first, &line),
         None => first,
     }
 }
 
-// The run that begins at `first`, where the line is there and not blank.
-fn run_at<S: Store>(store: &S, first: u32) -> Option<Run>
-    ensures { RunAt (S.meaning store.now) first result }
+// The bytes of a line that is there and not blank.
+fn held<S: Store>(store: &S, number: u32) -> Option<[u8; 128]>
+    ensures { Holds (S.meaning store.now) number result }
 {
-    let line = line_at(store, first)?;
-    if is_blank(&line.bytes) {
+    // a line record for `read` to fill
+    let mut bytes = [0; 128];
+    store.read(number, &mut bytes).ok()?;
+    if is_blank(&bytes) {
         return None;
     }
-    Some(Run {
-        first,
-        after: end_of_run(store, first, line),
-        line,
-    })
+    Some(bytes)
+}
+
+// The first line, from line `from` on, that is not blank, and its bytes.
+fn first_held<S: Store>(store: &S, from: u32) -> Option<(u32, [u8; 128])>
+    ensures { FirstHeld (S.meaning store.now) from result }
+{
+    (from..store.size()).find_map(|number| Some((number, held(store, number)?)))
 }
 
 // The first run, from line `from` on, of lines that are not blank.
 pub fn next_run<S: Store>(store: &S, from: u32) -> Option<Run>
     ensures { NextRun (S.meaning store.now) from result }
 {
-    (from..store.size()).find_map(|first| run_at(store, first))
+    let (first, bytes) = first_held(store, from)?;
+    let line = Line {
+        bytes,
+        writable: store.writable(first),
+    };
+    Some(Run {
+        first,
+        after: end_of_run(store, first, &line),
+        line,
+    })
 }
 
 // The runs of a store's lines that are not blank, one after another: those from line `from` on.
@@ -96,7 +123,15 @@ impl<'a, S: Store> Runs<'a, S> {
         ensures store { result.store.now ≡ store.now }
         ensures from { result.from ≡ 0 }
     {
-        Runs { store, from: 0 }
+        Runs::starting_at(store, 0)
+    }
+
+    // The runs of the store from line `from` on.
+    pub(crate) fn starting_at(store: &'a S, from: u32) -> Self
+        ensures store { result.store.now ≡ store.now }
+        ensures from { result.from ≡ from }
+    {
+        Runs { store, from }
     }
 }
 

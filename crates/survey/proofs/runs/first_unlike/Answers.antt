@@ -21,5 +21,5 @@ module _ (m : Meaning) (n : ℕ) (line : Line) where
 pub returns : goal.returns
 returns g c =
     let m = g.S.Store.meaning c.args.store.now in
-    let found = first_from_Range _ _ _ c.find.result (Unlike m c.args.from c.args.line) (Alike m c.args.from c.args.line) c.find.ensures.ran (λ x q k. search rules) (λ x q k. search rules) in
-    first m c.args.from c.args.line c.find.result (rw c.size.ensures at found)
+    let found = first_from_Range _ _ _ c.find.result (Unlike m c.args.from c.args.line.now) (Alike m c.args.from c.args.line.now) c.find.ensures.ran (λ x q k. search rules) (λ x q k. search rules) in
+    first m c.args.from c.args.line.now c.find.result (rw c.size.ensures at found)
