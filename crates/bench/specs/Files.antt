@@ -5,6 +5,14 @@ use Rattle.survey.specs.Outcomes.{Takes}
 use Rattle.bench.specs.declared.fault.FileFault.{FileFault}
 use Rattle.bench.specs.declared.fault.FileFault.TheVariants.{Missing, Unreadable, OutOfMemory, Refused}
 
+-- What becomes of an image that was read: the store takes it, or refuses it for the image's own fault.
+abbrev pub TakesRead : Meaning → List ℕ → Result ℕ FileFault → Meaning → Type 0
+TakesRead m image (Ok count) after = Takes m image (Ok count) after
+TakesRead m image (Err (Refused fault)) after = Takes m image (Err fault) after
+TakesRead m image (Err Missing) after = ⊥
+TakesRead m image (Err Unreadable) after = ⊥
+TakesRead m image (Err OutOfMemory) after = ⊥
+
 -- An image of at most so many bytes. Where it is known which bytes a reader gives, they are the first of these.
 abbrev pub IsFront : ℕ → Option (List ℕ) → List ℕ → Type 0
 IsFront most known image = (length image ≤ most) × IfSome known (λ given. image ≡ take most given)

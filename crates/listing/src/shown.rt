@@ -2,6 +2,7 @@
 use crate::disassembly::Disassembly;
 use std::fmt;
 use survey::Run;
+use text::Hex;
 use word::words;
 
 // A run, shown with the words of its first line.
@@ -26,9 +27,9 @@ impl fmt::Display for RunText {
         // addresses go on past the highest from 0, as the machine's do
         let base = first.wrapping_mul(128);
         for (offset, word) in (0..128).step_by(4).zip(words(&run.line.bytes)) {
-            let address = base.wrapping_add(offset);
-            let meaning = Disassembly(word);
-            write!(f, "\n  {address:08X} {word:08X} {meaning}")?;
+            let address = Hex(base.wrapping_add(offset));
+            let (bits, meaning) = (Hex(word), Disassembly(word));
+            write!(f, "\n  {address} {bits} {meaning}")?;
         }
         Ok(())
     }

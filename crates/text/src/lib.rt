@@ -1,5 +1,5 @@
-// The texts that the console and a replay share: numbers and bytes in hexadecimal digits, and the letter of a
-// mode, each with its promised text. It prints nothing. It uses `flat` for modes.
+// The texts that programs share: numbers and bytes in hexadecimal digits, and the letter of a mode, each with its
+// promised text. It prints nothing. It uses `flat` for modes.
 #![tactic(auto)]
 
 mod hex;
