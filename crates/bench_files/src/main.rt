@@ -18,9 +18,10 @@ fn try_file(rt: &HostRuntime, path: &str) -> io::Result<()> {
         outcome => println!(rt; "{path}\n{}", OutcomeText(outcome))?,
     }
     // a sum without a test or a check in each turn; the bench has far fewer bytes than a u32 counts
-    let changed = memory
-        .iter()
-        .fold(0u32, |count, byte| count.wrapping_add(u32::from(*byte != 0)));
+    let changed = memory.iter().fold(
+        0u32,
+        |count, byte| count.wrapping_add(u32::from(*byte != 0)),
+    );
     println!(rt; "bytes changed: {changed}")
 }
 
